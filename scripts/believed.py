@@ -5,8 +5,9 @@ below, or where one of these definitions names what belongs to the parser's run.
 
 It counts the same of what calls of first states and of flow promise of the rest of a line (`line` of
 `constructs::call`, `flow::start`, `document::flow_inside` and `document::containers_after`), with what is not among the
-lines of `parse`. It fails where there is more than the limits below, or where one of these definitions names a rule by
-cells, a transition or a value."""
+lines of `parse`; and the same of what reading content makes of the lines of a text (`texts` of `read_texts`). It fails
+where there is more than the limits below, or where one of these definitions names a rule by cells, a transition or a
+value."""
 import os
 import re
 import sys
@@ -21,6 +22,9 @@ MOST, MOST_ELSE = 3200, 700
 LINES = "Rattle.md_flow.specs.LineRule"
 CALLS = ((LINES, "IsFirstCall"), (LINES, "IsLineCall"), (LINES, "IsMet"), (LINES, "IsMetFirst"), (LINES, "IsOpen"))
 MOST_OF_CALLS, MOST_NEW = 1650, 620
+# what reading content makes of the lines of a text
+TEXTS = ("Rattle.markdown_blocks.specs.TextsRead", "AreTextsRead")
+MOST_OF_TEXTS = 100
 # where rules by cells, transitions, schemes and values of constructs are from
 RULE = re.compile(r"Rattle\.(md_\w+\.specs\.(\w+Rule|Registry|Flow|Document|States|Scheme|Transition)|"
                   r"proof_\w+\.specs\.(LineLeaf|ContainerRules|Rule|Leaf\.(?!Paragraph)\w+|Containers\.\w+))\.")
@@ -138,13 +142,18 @@ def main():
     calls, new = lines_of(of_calls), lines_of(of_calls - all_of)
     print(f"{CALLS[0][1]}, {CALLS[1][1]}: {calls} lines in {len({path for path, _ in of_calls})} files, of which {new} "
           f"are not among those of {STATEMENT[1]}")
-    of_rules = {f"{path}.{name}" for path, name in of_calls if RULE.match(f"{path}.") and path != LINES}
+    of_texts = unfolded(*TEXTS)
+    texts, own = lines_of(of_texts), lines_of(of_texts - all_of)
+    print(f"{TEXTS[1]}: {texts} lines in {len({path for path, _ in of_texts})} files, of which {own} are not among those "
+          f"of {STATEMENT[1]}")
+    of_rules = {f"{path}.{name}" for path, name in of_calls | of_texts if RULE.match(f"{path}.") and path != LINES}
     for name in sorted(of_rules):
         print("believed: a clause of lines unfolds to", name)
     of_run = {f"{path}.{name}" for place in all_of for path, name in imports(*place) if RUN.match(path)}
     for name in sorted(of_run):
         print("believed: a definition names", name)
-    sys.exit(lines > MOST or rest > MOST_ELSE or calls > MOST_OF_CALLS or new > MOST_NEW or bool(of_run | of_rules))
+    sys.exit(lines > MOST or rest > MOST_ELSE or calls > MOST_OF_CALLS or new > MOST_NEW or own > MOST_OF_TEXTS
+             or bool(of_run | of_rules))
 
 
 main()

@@ -1,15 +1,13 @@
 -- What is in a text once its lines and its content are read: texts that are not read yet.
 use Rattle.md_engine.specs.declared.tokenizer.held_leaf.HeldLeaf.TheVariants as held_leaf
-use Rattle.std.proofs.Common.{◌≡◌, ◌^◌, ◌<◌, ℕ, List, [], inr, length, drop, refl, sym, ◌∙◌, subst, arith}
+use Rattle.std.proofs.Common.{◌≡◌, ◌^◌, ◌<◌, ℕ, List, [], inr, length, drop, refl, sym, ◌∙◌, subst}
 use Rattle.md_engine.specs.declared.configuration.ParseOptions.{ParseOptions}
 use Rattle.md_engine.specs.declared.event.Event.{Event}
 use Rattle.md_engine.specs.declared.event.Point.{Point}
 use Rattle.md_engine.specs.Found.{Found}
-use Rattle.md_engine.specs.Place.{IsPlaced, first_point}
+use Rattle.md_engine.specs.Place.{first_point}
 use Rattle.md_engine.specs.World.{World}
 use Rattle.md_meaning.specs.Texts.{split_lines}
-use Rattle.md_events.proofs.PlacesLemmas.{Placed, placed-facts}
-use Rattle.md_events.proofs.ReachedLemmas.{point-placed}
 use Rattle.md_registry.specs.Resolving.{lines_joined}
 use Rattle.md_content.specs.ContentReads.{content_readings, wants_content}
 use Rattle.md_events.specs.Substituted.{Substituted}
@@ -102,9 +100,3 @@ joined-set options bytes p built small found new begins flow = record {
   may_pass = inr (joined-alone options bytes p built small begins found new flow);
   may_nest = joined-nests options bytes p built small begins found new flow;
 }
-
--- Flow may begin at a point of the text where no tab is cut.
-pub placed-begins : (bytes : List ℕ) (p : Point) → IsPlaced bytes p → p.vs ≡ 0 → MayBegin bytes p
-placed-begins bytes p placed whole =
-    let facts : Placed bytes p = placed-facts bytes p (point-placed bytes p placed) in
-    record { index = placed.index; vs = whole; column = let is = facts.column in omega (arith, is) }

@@ -118,16 +118,16 @@ rows-side (row ∷ rows) framed quiet =
 -- The step after the states, whether content is read or not.
 
 -- lines of text that are heads are read again, and then content is read
-record ContentRead (bytes : List ℕ) (options : ParseOptions) (rows : List Row) (at : World) (found : Found)
+pub record ContentRead (bytes : List ℕ) (options : ParseOptions) (rows : List Row) (at : World) (found : Found)
     (new : World) : Type 0 where
-  rest : new ≡ record at { events = new.events }
-  read : Substituted wants_content (content_readings bytes options) [] 0
+  pub rest : new ≡ record at { events = new.events }
+  pub read : Substituted wants_content (content_readings bytes options) [] 0
       (joined (heads_read options bytes (rows_events rows))) new.events
-  found_is : ((has_text rows ≡ false) × (found ≡ nothing)) ⊎ (found ≡ found_in_content bytes new.events)
-  definitions : found.definitions ≡ labels_in bytes new.events
-  footnotes : found.footnotes ≡ []
+  pub found_is : ((has_text rows ≡ false) × (found ≡ nothing)) ⊎ (found ≡ found_in_content bytes new.events)
+  pub definitions : found.definitions ≡ labels_in bytes new.events
+  pub footnotes : found.footnotes ≡ []
 
-content-step : (bytes : List ℕ) (options : ParseOptions) (rows : List Row) (at : World) (found : Found)
+pub content-step : (bytes : List ℕ) (options : ParseOptions) (rows : List Row) (at : World) (found : Found)
     (new : World) →
     EachRow IsFramed rows → EachNoContent rows →
     at.events ≡ rows_events rows → at.setting.bytes ≡ bytes → at.setting.options ≡ options →
@@ -315,7 +315,7 @@ text-quiet options bytes p =
     rows_at-no_content options (suc (length (text_cells bytes options p))) [] held_leaf.None
     (text_cells bytes options p) p
 
-text-framed : (options : ParseOptions) (bytes : List ℕ) (p : Point) → EachRow IsFramed (text_rows options bytes p)
+pub text-framed : (options : ParseOptions) (bytes : List ℕ) (p : Point) → EachRow IsFramed (text_rows options bytes p)
 text-framed options bytes p =
     rows_at-framed options (suc (length (text_cells bytes options p))) [] held_leaf.None
     (text_cells bytes options p) p
@@ -377,6 +377,35 @@ flushed-side bytes options p start to end at none flushed same all small run f =
     inl
     (ap (λ (w : World). side_by_side false w.events) f.resolved.0 ∙ ap (side_by_side false) pushed.events
     ∙ rows-side (text_rows options bytes p) (text-framed options bytes p) (text-quiet options bytes p))
+
+-- What flow has added is the events of its rows, over this text.
+pub record AreFlushed (bytes : List ℕ) (options : ParseOptions) (p : Point) (flushed : World) : Type 0 where
+  pub events : flushed.events ≡ rows_events (text_rows options bytes p)
+  pub bytes_are : flushed.setting.bytes ≡ bytes
+  pub options_are : flushed.setting.options ≡ options
+
+pub flushed-events : (bytes : List ℕ) (options : ParseOptions) (p : Point)
+    (start : World) (to : ℕ) (end : State) (at : World) (none : Found) (flushed : World) →
+    start ≡ fresh bytes options p → to ≡ length bytes →
+    length bytes < 2 ^ 61 →
+    Runs FlowStep false (Next (s.Document document.ContainerExistingBefore)) (reads_to start to) end at →
+    Flushes FlowStep resolved_as end at false none flushed → AreFlushed bytes options p flushed
+flushed-events bytes options p start to end at none flushed same all small run f =
+    let P : World →
+    Type 0 = λ w. Runs FlowStep false (Next (s.Document document.ContainerExistingBefore))
+    (reads_to w (length bytes)) end at in
+    let Q : ℕ →
+    Type 0 = λ n. Runs FlowStep false (Next (s.Document document.ContainerExistingBefore))
+    (reads_to start n) end at in
+    let pushed : IsPushed bytes options p f.end f.at =
+    flow-pushed bytes options p end at none flushed small (subst P same (subst Q all run)) f in
+    record {
+      events = ap (λ (w : World). w.events) f.resolved.0 ∙ pushed.events;
+      bytes_are =
+          ap (λ (w : World). w.setting.bytes) f.resolved.0 ∙ ap (λ (x : Setting). x.bytes) pushed.setting;
+      options_are =
+          ap (λ (w : World). w.setting.options) f.resolved.0 ∙ ap (λ (x : Setting). x.options) pushed.setting;
+    }
 
 -- the same for a tokenizer that is known to be fresh
 pub flow-flushed-from : (bytes : List ℕ) (options : ParseOptions) (p : Point)

@@ -25,3 +25,4 @@ pub mod TextQuoted
 pub mod ReadsWith
 pub mod DocumentReads
 pub mod Labels
+pub mod TextsRead

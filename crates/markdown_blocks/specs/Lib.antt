@@ -4,3 +4,4 @@ pub mod Fed
 pub mod ContentRead
 pub mod FlowReads
 pub mod FrontRead
+pub mod TextsRead

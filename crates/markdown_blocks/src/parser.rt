@@ -13,8 +13,10 @@ ghost use Rattle.md_leaves.specs.Spanned.{passes_on};
 ghost use Rattle.md_leaves.specs.Turned.{HoldNoUnderline};
 ghost use Rattle.markdown_blocks.specs.Alone.{may_change, passes_alone, stays_by_name};
 ghost use Rattle.markdown_blocks.specs.ContentRead.{AreSideBySide, ReadIf, holds_content};
-ghost use Rattle.markdown_blocks.specs.FlowReads.{FlowReads};
+ghost use Rattle.markdown_blocks.specs.FlowReads.{FlowReads, IsFlowRead};
+ghost use Rattle.proof_leaf_laws.specs.Front.{body_point};
 ghost use Rattle.markdown_blocks.specs.FrontRead.{exact_front};
+ghost use Rattle.markdown_blocks.specs.TextsRead.{AreTextsRead};
 ghost use Rattle.md_order.specs.Alone.{MayPass};
 ghost use Rattle.md_order.specs.InOrder.{every, in_order};
 ghost use Rattle.proof_container_laws.specs.Footnotes.{footnotes_listed};
@@ -354,6 +356,33 @@ fn read_content(tokenizer: &mut Tokenizer, known: usize) -> Result<(Subresult, u
     }
 }
 
+/// Reads the content of the lines of a text that flow has read, as `read_content`. A text becomes the definitions and
+/// the paragraph that the exact list has for its lines, a line is read again as a head just where it is one there, and
+/// all other lines stay (`texts`).
+///
+/// An `Err` says that memory ran out.
+fn read_texts(tokenizer: &mut Tokenizer, known: usize) -> Result<(Subresult, usize), Message>
+    requires frames { (world tokenizer.old).frames ≡ [] }
+    requires known { known ≤ prefix_len passes_alone (world tokenizer.old).events }
+    requires side { AreSideBySide (world tokenizer.old).events }
+    requires built { IsWithoutMdx (world tokenizer.old).setting.options }
+    requires small { IsSmall (world tokenizer.old).setting.bytes }
+    requires lines { IsFlowRead (world tokenizer.old) }
+    ensures content { IfOk result
+        (λ read.
+        ReadIf (holds_content (world tokenizer.old).events) (world tokenizer.old) (found_in read.0)
+        (world tokenizer.new)) }
+    ensures many { IfOk result
+        (λ read. read.1 ≤ prefix_len (passes_on Place.Outside) (world tokenizer.new).events) }
+    ensures texts { IfOk result
+        (λ read.
+        AreTextsRead (world tokenizer.old).setting.options (world tokenizer.old).setting.bytes
+        (world tokenizer.old).events (world tokenizer.new).events) }
+{
+    let read = read_content(tokenizer, known)?;
+    Ok(read)
+}
+
 /// Joins the lines of each leaf of several, and runs the resolvers of items, headings and tables. Where there is
 /// none of these, one test of each event shows that nothing changes. It is known of the first `many` events that they
 /// pass as they are where lines are joined.
@@ -397,7 +426,7 @@ fn read_flow<'a>(
     requires small { IsSmall bytes.now }
     requires built { IsWithoutMdx options.now }
     requires placed { IsPlaced bytes.now start }
-    requires whole { start.vs ≡ 0 }
+    requires begins { start ≡ body_point options.now bytes.now }
     ensures { IfOk result (λ read. FlowReads bytes.now options.now start (found_in read.1) (world read.0)) }
 {
     let mut tokenizer = flow_tokenizer(alloc, bytes, options, start)?;
@@ -411,7 +440,7 @@ fn read_flow<'a>(
     if same == tokenizer.events.len() {
         return Ok((tokenizer, nothing(alloc)));
     }
-    let (found, many) = read_content(&mut tokenizer, same)?;
+    let (found, many) = read_texts(&mut tokenizer, same)?;
     resolve_blocks(&mut tokenizer, options, many)?;
     Ok((tokenizer, found))
 }

@@ -3,8 +3,7 @@
 use Rattle.std.proofs.Common.{◌≡◌, ◌<◌, ◌≤◌, ◌∙◌, ◌++◌, Bool, true, false, List, [], ◌∷◌, ap, arith}
 use Rattle.std.proofs.Common.{Some, length, nat_eq, not, refl, subst, sym}
 use Rattle.md_content.specs.Chunks.{begun, chunk_inside_code, chunk_start_transition, chunk_transition, content_link}
-use Rattle.md_events.proofs.LineTaken.{whole-following}
-use Rattle.md_content.proofs.StaysLemmas.{chunk-takes, not-ending}
+use Rattle.md_content.proofs.StaysLemmas.{chunk-takes}
 use Rattle.md_engine.specs.declared.event.Event.{Event}
 use Rattle.md_engine.specs.declared.event.Kind.TheVariants.{Enter}
 use Rattle.md_engine.specs.declared.event.Name.TheVariants.{Content}
@@ -22,7 +21,6 @@ use Rattle.md_engine.specs.Staying.SeesSome.{Nothing, OneMore}
 use Rattle.md_engine.specs.World.{World, looks}
 use Rattle.md_engine.proofs.Loops.{ArrivedHere, ArrivedAt, arrived-first, arrived-runs}
 use Rattle.md_engine.proofs.Walks.{Within, then-holds, then-seen, then-stays, within-more, within-one}
-use Rattle.md_events.specs.Lent.{whole_from}
 use Rattle.md_events.specs.Spaces.{ends_line}
 use Rattle.md_events.specs.Transition.{tried}
 use Rattle.md_registry.specs.States.{FlowStep}
@@ -53,14 +51,7 @@ some-keeps w _ (OneMore v some here) =
     let before = some-keeps w v some in
     record { events = before.events; frames = before.frames; scratch = before.scratch; flags = before.flags }
 
--- Its end comes no earlier than its begin,
-pub some-order : (w u : World) → SeesSome Line w u → whole_from w.point ≤ whole_from u.point
-some-order w _ Nothing = omega arith
-some-order w _ (OneMore v some here) =
-    let before = some-order w v some in
-    let step = whole-following v.setting v.point here.0 (not-ending here.0 here.2) here.1 in omega (arith, before, step)
-
--- and there the line ends, where something is.
+-- At its end the line ends, where something is.
 pub line-over : (u : World) → u.point.index < u.setting.limit → ¬ Sees Line u → ends_line (looks u) ≡ true
 line-over u lt none = ap ends_line there ∙ go (nat_eq (seen_at u.setting.bytes u.point) 10) refl
   where

@@ -27,7 +27,7 @@ use Rattle.proof_exact.proofs.LinesExact.{lines-same, nothing}
 use Rattle.proof_exact.proofs.TextLines.{BodyLines, body-lines}
 
 -- the lines of its body, as the exact list has them
-abbrev body_lines : ParseOptions → List ℕ → List TextLine
+abbrev pub body_lines : ParseOptions → List ℕ → List TextLine
 body_lines options text = drop (front_size options text) (text_lines text)
 
 abbrev body_rows : ParseOptions → List ℕ → List Row

@@ -30,7 +30,7 @@ use Rattle.proof_exact.proofs.ExactRoles.{AreMet}
 use Rattle.proof_exact.proofs.Fed.{AreFed, lines-fit}
 use Rattle.proof_exact.proofs.FedRows.{rows-fed}
 use Rattle.proof_exact.proofs.Fit.{Fit}
-use Rattle.proof_exact.proofs.GroupsMatch.{groups-match}
+use Rattle.proof_exact.proofs.GroupsMatch.{GroupsMatch, groups-match}
 use Rattle.proof_exact.proofs.Put.{rows-put}
 use Rattle.proof_exact.proofs.RowsMet.{HaveBytes, KnowsStep, rows-met}
 use Rattle.proof_exact.proofs.TextLines.{have-bytes}
@@ -53,12 +53,12 @@ pub record BeginsLine (text : List ℕ) (number index column : ℕ) (fulls : Lis
 
 module _ (options : ParseOptions) (text : List ℕ) (built : IsWithoutMdx options) (small : length text < 2 ^ 61)
     (number index column : ℕ) (fulls : List (List ℕ)) (is : BeginsLine text number index column fulls) where
-  are-rows : AreRows options text [] held_leaf.None (begin number index column) (split_lines (drop index text))
+  pub are-rows : AreRows options text [] held_leaf.None (begin number index column) (split_lines (drop index text))
       (text_rows options text (begin number index column))
   are-rows =
       fresh-rows options text (begin number index column) built small is.placed.index refl (omega arith)
 
-  quiet : EachNoContent (text_rows options text (begin number index column))
+  pub quiet : EachNoContent (text_rows options text (begin number index column))
   quiet =
       let cells = text_cells text options (begin number index column) in
       rows_at-no_content options (suc (length cells)) [] held_leaf.None cells (begin number index column)
@@ -85,6 +85,19 @@ module _ (options : ParseOptions) (text : List ℕ) (built : IsWithoutMdx option
       fulls built (record { small = small; limit = refl; skips = refl }) tt is.placed (inr refl) refl is.are
       (omega arith)
 
+  -- They are put together as their rows are grouped, and each fits its row.
+  pub lines-match :
+      GroupsMatch (Fit options text) (groups (text_rows options text (begin number index column)))
+      (grouped (exact_rows options nothing (lines_from number index column fulls)))
+  lines-match =
+      groups-match options text (Fit options text)
+      (exact_rows options nothing (lines_from number index column fulls))
+      (text_rows options text (begin number index column))
+      (aligned options text (Fit options text) nothing (lines_from number index column fulls)
+      (text_rows options text (begin number index column)) met
+      (lines-fit options text nothing (lines_from number index column fulls)
+      (text_rows options text (begin number index column)) (knows-step options built) met are-fed))
+
   pub lines-same :
       tabled_groups options text (groups (text_rows options text (begin number index column)))
       ≡ unlisted_groups options (grouped (exact_rows options nothing (lines_from number index column fulls)))
@@ -93,11 +106,5 @@ module _ (options : ParseOptions) (text : List ℕ) (built : IsWithoutMdx option
       (grouped (exact_rows options nothing (lines_from number index column fulls)))
       (groups-are options text [] held_leaf.None (begin number index column) (split_lines (drop index text))
       (text_rows options text (begin number index column)) (refl, refl) are-rows quiet)
-      (groups-match options text (Fit options text)
-      (exact_rows options nothing (lines_from number index column fulls))
-      (text_rows options text (begin number index column))
-      (aligned options text (Fit options text) nothing (lines_from number index column fulls)
-      (text_rows options text (begin number index column)) met
-      (lines-fit options text nothing (lines_from number index column fulls)
-      (text_rows options text (begin number index column)) (knows-step options built) met are-fed)))
+      lines-match
       (rows-put options nothing (lines_from number index column fulls))

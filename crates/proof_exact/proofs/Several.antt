@@ -40,6 +40,7 @@ use Rattle.md_registry.specs.Registry.{asked_first, leaf}
 use Rattle.proof_rows.specs.Rows.{tail_events}
 use Rattle.proof_rows.proofs.KindLemmas.{kind-filled}
 use Rattle.proof_rows.proofs.RowLeaf.{row-as}
+use Rattle.proof_literal_laws.proofs.Fence.Opened.{opening-some}
 use Rattle.proof_exact_lines.proofs.BeginsAt.{rest_bytes}
 use Rattle.proof_exact_lines.proofs.FlowLines.{following-blank, first-code, first-fence, first-html, further-code}
 use Rattle.proof_exact_lines.proofs.FlowLines.{further-fence, further-html}

@@ -94,7 +94,7 @@ bare-added options l bare all open_leaf line r p at starts =
     is_first =
         ap
         (λ (x : Bool).
-            cond x (further_role open_leaf (value l).heads) (First ((value l).becomes options NoLeaf r)))
+        cond x (further_role open_leaf (value l).heads) (First ((value l).becomes options NoLeaf r)))
         (bare.begins (met all open_leaf))
         ∙ ap First (bare.finishes options NoLeaf r)
 

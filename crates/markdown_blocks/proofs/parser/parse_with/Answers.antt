@@ -1,13 +1,11 @@
 use Rattle.std.proofs.Common.{◌≡◌, ◌^◌, ◌<◌, ℕ, List, length, ◌∙◌, ap, refl, sym, subst, arith}
 use Rattle.std.specs.Str.{IsUtf8}
 use Rattle.md_engine.specs.Found.{found_in}
-use Rattle.md_engine.specs.declared.event.Point.{Point}
 use Rattle.md_engine.specs.World.{Setting, world}
 use Rattle.md_engine.specs.declared.parse_state.ParseState.{ParseState}
 use Rattle.md_events.specs.TextPart.{document_of}
 use Rattle.proof_container_laws.specs.Footnotes.{footnotes_listed}
 use Rattle.markdown_blocks.specs.Parsed.{IsRead}
-use Rattle.proof_rows.proofs.Begun.{begun}
 use Rattle.markdown_blocks.proofs.ReadsWith.{IsAhead, parts-asked, reads-with}
 use Rattle.markdown_blocks.proofs.parser.parse_with.Given.{Over}
 use Rattle.markdown_blocks.proofs.parser.parse_with.Goals.{After-reader-1}
@@ -26,10 +24,8 @@ read_flow-requires-clause-placed g c =
 pub read_flow-requires-clause-built : goal.read_flow-requires-clause-built
 read_flow-requires-clause-built g c = c.requires.built
 
-pub read_flow-requires-clause-whole : goal.read_flow-requires-clause-whole
-read_flow-requires-clause-whole g c =
-    ap (λ (p : Point). p.vs) c.in_ok-front.ensures.point
-    ∙ (begun c.args.options.now c.as_bytes-bytes.result.now).vs
+pub read_flow-requires-clause-begins : goal.read_flow-requires-clause-begins
+read_flow-requires-clause-begins g c = c.in_ok-front.ensures.reads.point
 
 pub subtokenize-requires-clause-placed : goal.subtokenize-requires-clause-placed
 subtokenize-requires-clause-placed g c =

@@ -5,9 +5,12 @@ use Rattle.md_engine.specs.World.{World, world}
 use Rattle.md_engine.specs.declared.event.Event.{Event}
 use Rattle.markdown_blocks.specs.Alone.{stays_by_name}
 use Rattle.markdown_blocks.specs.ContentRead.{ReadIf}
-use Rattle.markdown_blocks.proofs.ContentAre.{joined-set, placed-begins}
-use Rattle.markdown_blocks.proofs.FlowReads.{FlowFlushed, flow-flushed-from, flow-reads, flushed-frames, flushed-side}
-use Rattle.markdown_blocks.proofs.FlowReads.{read-frames}
+use Rattle.markdown_blocks.specs.Parsed.{IsSmall, IsWithoutMdx}
+use Rattle.markdown_blocks.proofs.ContentAre.{joined-set}
+use Rattle.markdown_blocks.proofs.FlowReads.{FlowFlushed, flow-flushed-from, flow-reads, flushed-events}
+use Rattle.markdown_blocks.proofs.FlowReads.{flushed-frames, flushed-side, read-frames}
+use Rattle.markdown_blocks.proofs.TextsRead.{flow-read}
+use Rattle.proof_rows.proofs.TextAre.{MayBegin, body-begins}
 use Rattle.markdown_blocks.proofs.StaysAlone.{alone-same, stay-alone, stay-none}
 use Rattle.markdown_blocks.proofs.parser.read_flow.Goals as goal
 
@@ -28,20 +31,38 @@ returns-then-same-len c =
     (c.nothing.ensures, refl)) in
     flow-reads c.args.bytes.now c.args.options.now c.args.start _ _ _ flushed
     (joined-set c.args.options.now c.args.bytes.now c.args.start c.requires.built (omega (arith, c.requires.small)) _ w
-    (placed-begins c.args.bytes.now c.args.start c.requires.placed c.requires.whole) flushed)
+    (subst (MayBegin c.args.bytes.now) (sym c.requires.begins) (body-begins c.args.options.now c.args.bytes.now)) flushed)
     (ap (λ (es : List Event). record w { events = es })
     (sym (alone-same c.args.options.now w.setting.bytes w.events all)))
 
-pub read_content-requires-clause-frames : goal.read_content-requires-clause-frames
-read_content-requires-clause-frames c = flushed-frames _ _ _ _ _ _ c.in_ok-flush.ensures
+pub read_texts-requires-clause-frames : goal.read_texts-requires-clause-frames
+read_texts-requires-clause-frames c = flushed-frames _ _ _ _ _ _ c.in_ok-flush.ensures
 
-pub read_content-requires-clause-side : goal.read_content-requires-clause-side
-read_content-requires-clause-side c =
+pub read_texts-requires-clause-side : goal.read_texts-requires-clause-side
+read_texts-requires-clause-side c =
     flushed-side c.args.bytes.now c.args.options.now c.args.start _ _ _ _ _ _ c.in_ok-tokenizer.ensures refl
     (omega (arith, c.requires.small)) (c.push.ensures.runs c.in_default.not-Error) c.in_ok-flush.ensures
 
-pub read_content-requires-clause-known : goal.read_content-requires-clause-known
-read_content-requires-clause-known c =
+pub read_texts-requires-clause-built : goal.read_texts-requires-clause-built
+read_texts-requires-clause-built c =
+    let are = flushed-events c.args.bytes.now c.args.options.now c.args.start _ _ _ _ _ _ c.in_ok-tokenizer.ensures refl
+    (omega (arith, c.requires.small)) (c.push.ensures.runs c.in_default.not-Error) c.in_ok-flush.ensures in
+    subst IsWithoutMdx (sym are.options_are) c.requires.built
+
+pub read_texts-requires-clause-small : goal.read_texts-requires-clause-small
+read_texts-requires-clause-small c =
+    let are = flushed-events c.args.bytes.now c.args.options.now c.args.start _ _ _ _ _ _ c.in_ok-tokenizer.ensures refl
+    (omega (arith, c.requires.small)) (c.push.ensures.runs c.in_default.not-Error) c.in_ok-flush.ensures in
+    subst IsSmall (sym are.bytes_are) c.requires.small
+
+pub read_texts-requires-clause-lines : goal.read_texts-requires-clause-lines
+read_texts-requires-clause-lines c =
+    flow-read c.args.options.now c.args.bytes.now c.args.start (world c.flush.new.tokenizer) c.requires.begins
+    (flushed-events c.args.bytes.now c.args.options.now c.args.start _ _ _ _ _ _ c.in_ok-tokenizer.ensures refl
+    (omega (arith, c.requires.small)) (c.push.ensures.runs c.in_default.not-Error) c.in_ok-flush.ensures)
+
+pub read_texts-requires-clause-known : goal.read_texts-requires-clause-known
+read_texts-requires-clause-known c =
     let w : World = world c.flush.new.tokenizer in
     let is : c.until_changed-same.result ≡ prefix_len stays_by_name w.events =
     c.until_changed-same.ensures.value ∙ ap (λ (es : List Event). prefix_len stays_by_name es) c.deref.ensures.value in
@@ -54,8 +75,8 @@ resolve_blocks-requires-clause-frames c =
 pub resolve_blocks-requires-clause-may : goal.resolve_blocks-requires-clause-may
 resolve_blocks-requires-clause-may c =
     (joined-set c.args.options.now c.args.bytes.now c.args.start c.requires.built (omega (arith, c.requires.small))
-    (found_in c.in_ok-found.found) (world c.read_content.new.tokenizer)
-    (placed-begins c.args.bytes.now c.args.start c.requires.placed c.requires.whole)
+    (found_in c.in_ok-found.found) (world c.read_texts.new.tokenizer)
+    (subst (MayBegin c.args.bytes.now) (sym c.requires.begins) (body-begins c.args.options.now c.args.bytes.now))
     (flow-flushed-from c.args.bytes.now c.args.options.now c.args.start _ _ _ _ _ _ _ _
     c.in_ok-tokenizer.ensures refl
     (omega (arith, c.requires.small)) (c.push.ensures.runs c.in_default.not-Error) c.in_ok-flush.ensures
@@ -63,7 +84,7 @@ resolve_blocks-requires-clause-may c =
 
 pub returns : goal.returns
 returns c =
-    let items : World = world c.read_content.new.tokenizer in
+    let items : World = world c.read_texts.new.tokenizer in
     let flushed : FlowFlushed c.args.bytes.now c.args.options.now c.args.start (found_in c.in_ok-found.found) items =
     flow-flushed-from c.args.bytes.now c.args.options.now c.args.start _ _ _ _ _ _ _ _
     c.in_ok-tokenizer.ensures refl
@@ -71,5 +92,5 @@ returns c =
     c.in_ok-found.ensures.content in
     flow-reads c.args.bytes.now c.args.options.now c.args.start _ _ _ flushed
     (joined-set c.args.options.now c.args.bytes.now c.args.start c.requires.built (omega (arith, c.requires.small)) _
-    items (placed-begins c.args.bytes.now c.args.start c.requires.placed c.requires.whole) flushed)
+    items (subst (MayBegin c.args.bytes.now) (sym c.requires.begins) (body-begins c.args.options.now c.args.bytes.now)) flushed)
     c.in_ok-resolve_blocks.ensures
