@@ -143,6 +143,24 @@ pub fn role_of<'a>(name: Name) -> Role<'a>
         Name::FrontmatterChunk | Name::CodeFlowChunk | Name::MathFlowChunk | Name::HtmlFlowData =>
             Role::Text(Purpose::Line),
         Name::LineEnding => Role::Ending,
+        // The most frequent names that mean nothing here have an arm, so they are not looked up.
+        Name::SpaceOrTab
+        | Name::BlankLineEnding
+        | Name::Data
+        | Name::ListItemPrefix
+        | Name::DefinitionLabel
+        | Name::DefinitionLabelMarker
+        | Name::DefinitionMarker
+        | Name::DefinitionDestination
+        | Name::DefinitionDestinationRaw
+        | Name::DefinitionTitleMarker
+        | Name::GfmTableHead
+        | Name::GfmTableBody
+        | Name::GfmTableCellDivider
+        | Name::GfmTableDelimiterCell
+        | Name::GfmTableDelimiterCellValue
+        | Name::GfmTableDelimiterMarker
+        | Name::GfmTableDelimiterFiller => Role::Quiet,
         _ => match bare_word(name) {
             Some(word) => Role::Leaf(Leaf::Bare(word)),
             None => Role::Quiet,
