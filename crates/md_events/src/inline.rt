@@ -3,8 +3,9 @@
 ghost use Rattle.std.specs.Prelude.{◌≡◌, IfOk, List, OnOk, true};
 ghost use Rattle.md_engine.specs.declared.event.Event.{Event};
 ghost use Rattle.md_events.specs.Events.Inline.{KeepsFrame, Part, plain_events};
-ghost use Rattle.md_events.specs.TextPart.{Document, IsTextPart, document_of};
+ghost use Rattle.md_events.specs.TextPart.{AreLabelsOf, Document, IsTextPart, IsTextPartAt, document_of};
 
+use crate::labels::Labels;
 use md_engine::event::{Event, Point};
 use md_engine::message::Message;
 use md_engine::parse_state::ParseState;
@@ -26,6 +27,25 @@ pub struct Chunk {
     pub first: Point,
     /// Where it has ended.
     pub after: Point,
+}
+
+/// Where a text part is, as far as its meaning depends on that.
+#[derive(Clone, Copy, Debug, PartialEq, Eq)]
+pub enum PartPlace {
+    /// In a cell of a table, where `\|` is a `|` (GFM 4.10).
+    TableCell,
+    /// In the paragraph that is the first block of a list item, where a task has its check (GFM 5.3).
+    ItemStart,
+    /// Anywhere else.
+    Elsewhere,
+}
+
+/// A text part of a document.
+#[derive(Clone, Copy, Debug, PartialEq, Eq)]
+pub struct TextPart<'a> {
+    pub kind: PartKind,
+    pub place: PartPlace,
+    pub chunks: &'a [Chunk],
 }
 
 /// Reads text parts.
@@ -53,8 +73,7 @@ pub trait Inline {
 
     /// Replaces `events` with those of the text part in these chunks. After an `Err` the list means nothing.
     ///
-    /// The block parser calls this, with the list that it has for the part before, so a layer that writes there asks
-    /// for no memory for most parts.
+    /// The list is that of the part before, so a layer that writes there asks for no memory for most parts.
     fn read_into(
         &self,
         alloc: Global,
@@ -69,6 +88,33 @@ pub trait Inline {
     {
         *events = self.read(alloc, kind, chunks, state)?;
         Ok(())
+    }
+
+    /// Replaces `events` with those of a text part, as `read_into`.
+    ///
+    /// The block parser calls this. A layer learns here where the part is, and looks labels up in few steps: `labels`
+    /// are made once a document.
+    fn read_part(
+        &self,
+        alloc: Global,
+        part: TextPart,
+        state: &ParseState,
+        labels: &Labels,
+        events: &mut Vec<Event>,
+    ) -> Result<(), Message>
+        requires part { IsTextPartAt (document_of state.now) (record { kind = part.kind; chunks = part.chunks.now })
+            part.place }
+        requires labels { AreLabelsOf (document_of state.now) labels.now }
+        ensures { OnOk result
+            (reads self.now (document_of state.now)
+            (record { kind = part.entry.kind; chunks = part.entry.chunks.now }) events.new.items) }
+    {
+        let TextPart {
+            kind,
+            place: _,
+            chunks,
+        } = part;
+        self.read_into(alloc, kind, chunks, state, events)
     }
 
     /// Whether it may read each part as the plain layer does: `Data` over each line, if it is not empty, and

@@ -1,8 +1,9 @@
-// The seam between the engine and the constructs: whitespace, slices, the inline layer, and what a list of events means
-// (`specs/Events`).
+// The seam between the engine and the constructs: whitespace, slices, the inline layer and the labels that it looks up,
+// and what a list of events means (`specs/Events`).
 #![tactic(auto)]
 
 pub mod inline;
+pub mod labels;
 pub mod moving;
 pub mod names;
 pub mod parts;
