@@ -20,7 +20,7 @@ os.chdir(os.path.join(os.path.dirname(os.path.abspath(__file__)), ".."))
 sys.path.insert(0, "scripts")
 sys.dont_write_bytecode = True
 
-CRATES = ("hoxalgurre", "reports", "html_blocks", "md_program", "hoxalgurre_c")
+CRATES = ("hoxalgurre", "html_blocks", "md_program", "hoxalgurre_c")
 # The report that most likely changes, by the file of a wrong body.
 REPORTS = {"events": "events", "outline": "outline", "position": "outline", "headings": "headings", "labels": "labels",
            "references": "labels", "inline": "labels", "tags": "html", "escape": "html", "ahead": "html", "render": "html",
@@ -140,7 +140,7 @@ def copied(work, found):
     crates = crates.replace("hoxalgurre_c staticlib:", "hoxalgurre_c:") + "\nmutant:\n"
     for crate in CRATES:
         crates = re.sub(rf"^{crate}:", f"{crate}: mutant", crates, flags=re.M)
-    crates = crates.replace("\nhoxalgurre: ", "\nhoxalgurre: printing hoxalgurre_c md_program ")
+    crates = crates.replace("\nhoxalgurre: ", "\nhoxalgurre: hoxalgurre_c ")
     for name, text in (("crates.txt", crates), ("crates/mutant/src/lib.rt", LIBRARY),
                        ("crates/mutant/c/mutant.c", IN_C.replace("KEPT", f"{work}/kept"))):
         with open(f"{work}/{name}", "w", encoding="utf-8") as file:

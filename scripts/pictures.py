@@ -17,14 +17,14 @@ TEXTS = ("Data", "CodeFlowChunk", "MathFlowChunk", "HtmlFlowData", "FrontmatterC
 GROUPS = (
     ("Tests and the reference program", r"test_.*|reference_(?!inlines).*|plain_blocks",
      "what compares definitions, programs and the library with each other"),
-    ("Programs and examples", r"md_program|printing|reports|html_blocks|blocks|events|hoxalgurre|hoxalgurre_c|examples_.*",
+    ("Programs and examples", r"md_program|printing|html_blocks|blocks|events|hoxalgurre|hoxalgurre_c|examples_.*",
      "what users run, link or copy"),
     ("The library", r"markdown_blocks", "parse, outline, wrap: what users name"),
     ("The machine", r"md_flow|md_at_once", "lines, read call by call and at once"),
-    ("Proofs of the exact list", r"proof_rows|proof_exact.*|proof_parts", "no code: the events of flow are the list of md_exact"),
+    ("Proofs of the exact list", r"proof_rows|proof_exact.*", "no code: the events of flow are the list of md_exact"),
     ("Laws of constructs", r"proof_frame|proof_.*_laws|md_registry",
      "each construct seen by bytes, by cells and by lines; which there are, and in which order"),
-    ("Constructs", r"md_leaves|md_code|md_html|md_tables|md_link_definitions|md_content|md_containers|"
+    ("Constructs", r"md_leaves|md_literal|md_tables|md_link_definitions|md_content|md_containers|"
      r"md_order|md_resolve|md_outline|md_wrap", "states and their rules; resolvers, the outline, texts written into containers"),
     ("Inline layers", r"md_inline_.*|proof_inline.*|md_entities|md_inlines|reference_inlines",
      "what a text part means, and what a layer finds in it"),

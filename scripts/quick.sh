@@ -5,11 +5,14 @@
 #
 # A crate changed if a file of it or its line in `crates.txt` did.
 #
-# - It proves, tests and runs the crates that changed, and above them each library that is short to prove (`rt ci NAME..`,
+# - It proves, tests and runs the crates that changed, and above them each library that is short to prove (`rt ci
+# NAME..`,
 #   which keeps what passes for the gate).
-# - Without proof it runs the programs above that have a file `stdout`, and compares what they print, the tests above, the
+# - Without proof it runs the programs above that have a file `stdout`, and compares what they print, the tests above,
+# the
 #   rows of the bench on the parser and on the plain program, and the limits of steps (`scripts/steps.py`).
-# - It runs `scripts/counts.py`, and each script that changed, or whose examples or pages did, if it needs no long build:
+# - It runs `scripts/counts.py`, and each script that changed, or whose examples or pages did, if it needs no long
+# build:
 #   those of built programs take what is in `crates/NAME/out`, and are left out where nothing is.
 #
 # At the end it says what it left out; only `.ci/run` tries everything.
@@ -63,7 +66,7 @@ def texts(name, *ends):
 
 
 def is_short(name):
-    is_library = os.path.exists(f"crates/{name}/src/lib.rt") and name != "test_library"
+    is_library = os.path.exists(f"crates/{name}/src/lib.rt")
     return is_library and sum(text.count("\n") for text in texts(name, ".rt", ".antt")) <= SHORT
 
 
@@ -170,7 +173,7 @@ where_changed '^scripts/c_header\.py|^include/' scripts/c_header.py --check
 where_built '^scripts/check_pages\.sh|\.md$' "blocks events hoxalgurre examples_references" scripts/check_pages.sh
 where_built '^scripts/check_texts\.sh|^examples/texts/' "hoxalgurre" scripts/check_texts.sh
 where_built '^scripts/(check_c\.sh|c_header\.py)|^(examples/(c|python)|include)/' "events" scripts/check_c.sh
-where_built '^scripts/refuse(_memory\.sh|\.c)' "blocks events test_memory examples_references hoxalgurre" scripts/refuse_memory.sh
+where_built '^scripts/refuse(_memory\.sh|\.c)' "blocks events test_library examples_references hoxalgurre" scripts/refuse_memory.sh
 where_built '^scripts/man\.py|^docs/hoxalgurre\.1' "hoxalgurre" scripts/man.py --check
 where_built '^scripts/pictures\.py|^docs/.*\.svg' "events" scripts/pictures.py --check
 # (further scripts: here)

@@ -1,21 +1,31 @@
 #!/usr/bin/env bash
-# Refuses requests for memory of built programs (`rt ci` or `rt run` builds them: `out`; where PROGRAMS is set, they are in that
-# folder). Each request is refused twice: alone, and with all that follow it. The number of the first that is refused rises until a
-# run meets no refusal (`scripts/refuse.c`).
+# Refuses requests for memory of built programs (`rt ci` or `rt run` builds them: `out`; where PROGRAMS is set, they are
+# in that folder). Each request is refused twice: alone, and with all that follow it. The number of the first that is
+# refused rises until a run meets no refusal (`scripts/refuse.c`).
 #
-# - Of `test_memory`, those of one call of the library: `parse`, `parse_with`, `outline`, `outline_part`, `wrap::quote`, `wrap::item`,
-#   `wrap::footnote`, and the `run` of `blocks`, all on one text. What the program asks for before and after the call is counted apart.
-#   A refused run ends with status 3 and prints nothing, and the last run prints what is given here. The states that take no memory
+# - Of `test_library`, those of one call of the library: `parse`, `parse_with`, `outline`, `outline_part`,
+# `wrap::quote`, `wrap::item`,
+# `wrap::footnote`, and the `run` of `blocks`, all on one text. What the program asks for before and after the call is
+# counted apart.
+# A refused run ends with status 3 and prints nothing, and the last run prints what is given here. The states that take
+# no memory
 #   answer while each request is refused.
-# - Of `blocks`, `events`, `plain_blocks` and `examples_references`, those of the whole program: on the texts of their stored runs, and
-#   the first two with the argument `alerts` on each begin of a text with a byte order mark, frontmatter, headings of both kinds,
-#   quotes, a break, nested lists, an alert with a fence, HTML, definitions, in a quote and before an underline, a table and a
-#   footnote definition; the third on that text. The fourth parses its text with an inline layer, wraps it in a quote and in an item,
-#   and parses both; a reference in it goes over two lines of a quote, and is defined after it. A refused run ends with status 3, says
+# - Of `blocks`, `events`, `plain_blocks` and `examples_references`, those of the whole program: on the texts of their
+# stored runs, and
+# the first two with the argument `alerts` on each begin of a text with a byte order mark, frontmatter, headings of both
+# kinds,
+# quotes, a break, nested lists, an alert with a fence, HTML, definitions, in a quote and before an underline, a table
+# and a
+# footnote definition; the third on that text. The fourth parses its text with an inline layer, wraps it in a quote and
+# in an item,
+# and parses both; a reference in it goes over two lines of a quote, and is defined after it. A refused run ends with
+# status 3, says
 #   so on its standard error and prints nothing.
-# - Of `hoxalgurre`, those of each of its reports in both formats. What a refused run prints at most is how a JSON report begins.
+# - Of `hoxalgurre`, those of each of its reports in both formats. What a refused run prints at most is how a JSON
+# report begins.
 #
-# No refused run ends as if nothing had been refused. How many refused runs there are at least is given for each program.
+# No refused run ends as if nothing had been refused. How many refused runs there are at least is given for each
+# program.
 set -euo pipefail
 cd "$(dirname "$0")/.."
 work=$(mktemp -d)
@@ -35,7 +45,7 @@ FOLDER = os.environ.get("PROGRAMS")
 PROGRAMS = {"blocks": 4000, "events": 4000, "plain_blocks": 100, "examples_references": 300}
 LEAST_REPORTS = 600
 
-# The sizes of the requests of `test_memory` before and after its call.
+# The sizes of the requests of `test_library` before and after its call.
 MARKS = {"BEFORE": "42421", "AFTER": "42423"}
 
 TEXT = b"> [a\n> b]: c\n\n- x | y\n  --|--\n  1 | 2\n\n# h\n\ni\n=\n\n[^f]: g\n\n[A\nB] j"
@@ -195,7 +205,7 @@ def each_refused(command, text, right, begins, complaints, marks={}):
 def refuse_call(word):
     """Refuses the requests of one call."""
     given, complaint = CALLS[word]
-    return each_refused([program("test_memory"), word], TEXT, (0, given, b""), [b""], [complaint], MARKS)
+    return each_refused([program("test_library"), word], TEXT, (0, given, b""), [b""], [complaint], MARKS)
 
 
 def refuse_text(name, text, given):
@@ -246,7 +256,7 @@ for name, least in {**dict.fromkeys(CALLS, 1), **PROGRAMS, "hoxalgurre": LEAST_R
     print(f"refused memory: {name}, {runs[name]} runs refused, none of which went on")
     if runs[name] < least:
         sys.exit(f"not at least {least}")
-ended, count, _ = run([program("test_memory"), "states"], b"", "1+", MARKS)
+ended, count, _ = run([program("test_library"), "states"], b"", "1+", MARKS)
 if ended != (0, STATES, b"") or count == 0:
     sys.exit(f"states, each request refused: status, output and complaint {ended}, {count} refused")
 PYTHON

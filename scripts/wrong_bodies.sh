@@ -1,18 +1,19 @@
 #!/usr/bin/env bash
-# Tries wrong bodies without proof, each of which must change a row: those that no contract can refuse, or that one may let
-# through, and those of promises that no must-fail edit tries.
+# Tries wrong bodies without proof, each of which must change a row: those that no contract can refuse, or that one may
+# let through, and those of promises that no must-fail edit tries.
 #
-# Each file of scripts/wrong-bodies has lines `file:`, `old:` (once in that file) and `new:`. All are applied to one copy
-# of the crates, where a body is wrong only for its number: `is_wrong()` in a `new:` line asks that of the constructs, or
-# of the walk over the cells of a table, which have a field for it in the copy, or in `md_program` of the program's name.
-# The copy of `test_bench` then tries the rows with the number of its argument, and 0 is for the bodies as they are; of the
-# parser also the rows of events, as the program `events` prints them and by `examples_layer`. It also prints the status of a
-# run with an argument that is none. An edit of a crate of the plain program changes that body, each other the parser. One
-# with the line `# bench` is tried with each construct off too, by its events, and on long labels, and something must be
-# wrong.
+# Each file of scripts/wrong-bodies has lines `file:`, `old:` (once in that file) and `new:`. All are applied to one
+# copy of the crates, where a body is wrong only for its number: `is_wrong()` in a `new:` line asks that of the
+# constructs, or of the walk over the cells of a table, which have a field for it in the copy, or in `md_program` of the
+# program's name. The copy of `test_bench` then tries the rows with the number of its argument, and 0 is for the bodies
+# as they are; of the parser also the rows of events, as the program `events` prints them and by `examples_layer`. It
+# also prints the status of a run with an argument that is none. An edit of a crate of the plain program changes that
+# body, each other the parser. One with the line `# bench` is tried with each construct off too, by its events, and on
+# long labels, and something must be wrong.
 #
-# So are wrong bodies that follow from a list, and not from files: the first state of each construct, which answers `Nok` at
-# once, and `pass`, which changes nothing at once. A row changes by each, so a parse goes through these functions.
+# So are wrong bodies that follow from a list, and not from files: the first state of each construct, which answers
+# `Nok` at once, and `pass`, which changes nothing at once. A row changes by each, so a parse goes through these
+# functions.
 set -euo pipefail
 cd "$(dirname "$0")/.."
 work=$(mktemp -d)
@@ -54,7 +55,7 @@ for number, edit in enumerate(edits, 1):
         replaced(name, old, new.replace("is_wrong()", asked), edit)
     if not tells:
         sys.exit(f"{edit}: no `new:` asks is_wrong()")
-    bodies.append((number, "Plain" if name.split("/")[1] in ("reference_grammars", "reference_tree") else "Blocks"))
+    bodies.append((number, "Plain" if name.split("/")[1] == "reference_tree" else "Blocks"))
 
 # what follows from the list
 for number, state in enumerate(FIRST, len(edits) + 1):
@@ -97,11 +98,11 @@ use printing::events::Events;
 use printing::print::print;
 use markdown_blocks::parser::parse_with;
 use examples_layer::References;
-use test_runner::event_rows::wanted;
-use test_runner::long::try_labels;
-use test_runner::report::Report;
-use test_runner::rows::{options_of, try_rows};
-use test_runner::without::try_without;
+use test_rows::runner::event_rows::wanted;
+use test_rows::runner::long::try_labels;
+use test_rows::runner::report::Report;
+use test_rows::runner::rows::{options_of, try_rows};
+use test_rows::runner::without::try_without;
 use test_rows::case::CaseError;
 use test_rows::event_case::EventCase;
 use md_engine::configuration::{Constructs, ParseOptions};

@@ -1,7 +1,7 @@
 // The text of a file or of the standard input.
 
+use crate::reports::position::Place;
 use crate::trouble::Trouble;
-use reports::position::Place;
 use std::fs;
 use std::io::{self, Read};
 

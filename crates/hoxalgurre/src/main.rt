@@ -1,12 +1,13 @@
 // The program `hoxalgurre`: reports of what is in Markdown texts, of files or of the standard input.
 //
-// `command` says which arguments there are, `input` reads a text, `tasks` prints the reports of all files, and the
-// crate `reports` makes them. `trouble` has what may go wrong, and the statuses. A message that cannot be
+// `command` says which arguments there are, `input` reads a text, `tasks` prints the reports of all files, and
+// `reports` makes them. `trouble` has what may go wrong, and the statuses. A message that cannot be
 // written changes nothing.
 #![tactic(auto)]
 
 mod command;
 mod input;
+mod reports;
 mod tasks;
 mod trouble;
 

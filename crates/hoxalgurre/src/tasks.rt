@@ -3,11 +3,11 @@
 ghost use Rattle.markdown_blocks.specs.Parsed.{IsWithoutMdx};
 
 use crate::input::{place_of, read};
+use crate::reports::report::{Format, Report, Task, report_on};
 use crate::trouble::Trouble;
 use clap::ArgMatches;
 use markdown_blocks::configuration::ParseOptions;
 use markdown_blocks::parser::MAX_LEN;
-use reports::report::{Format, Report, Task, report_on};
 use std::io::Write;
 use std::str;
 

@@ -25,7 +25,7 @@ use Rattle.proof_leaf_laws.proofs.Frontmatter.Whole.{FrontPart}
 use Rattle.proof_rows.proofs.TextAre.{MayBegin, from-are}
 use Rattle.proof_rows.proofs.AloneGroups.{leaves-alone}
 use Rattle.md_content.specs.Joined.{joined}
-use Rattle.proof_table_laws.specs.Headed.{heads_read}
+use Rattle.proof_leaf_laws.specs.Headed.{heads_read}
 use Rattle.proof_rows.proofs.NestGroups.{leaves-nest}
 use Rattle.proof_rows.proofs.TextsNest.{lines-given, texts-given}
 use Rattle.md_content.specs.ContentNests.{ContentNests, IsGiven}

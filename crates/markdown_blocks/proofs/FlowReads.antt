@@ -40,7 +40,7 @@ use Rattle.markdown_blocks.specs.Fed.{FlowRan}
 use Rattle.markdown_blocks.specs.FlowReads.{FlowReads, has_text}
 use Rattle.proof_rows.specs.TextRows.{text_cells, text_rows, text_setting}
 use Rattle.md_registry.specs.FlowRule.{flow_at}
-use Rattle.proof_table_laws.specs.Headed.{heads_read}
+use Rattle.proof_leaf_laws.specs.Headed.{heads_read}
 use Rattle.proof_frame.specs.Row.{BlankRow, LeafRow, Row, RowKind, TextRow}
 use Rattle.proof_rows.specs.Rows.{is_text, leaf_events, row_events, row_events_by, rows_events, tail_events}
 use Rattle.md_registry.specs.States.{FlowStep, flow_behaves, flow_table_scheme}
@@ -51,7 +51,7 @@ use Rattle.markdown_blocks.proofs.FlowRuns.{flow_flush, flow_outcome, flow_push}
 use Rattle.proof_frame.proofs.ContentFacts.{NoContent, content-alone, no_content-label, nothing as nothing_wanted}
 use Rattle.proof_frame.proofs.ContentFacts.{nothing-wanted}
 use Rattle.markdown_blocks.proofs.FlowSteps.{IsFramed, content-same, rows-no_content, rows_at-framed}
-use Rattle.proof_table_laws.proofs.HeadsRead.{heads-none}
+use Rattle.proof_leaf_laws.proofs.HeadsRead.{heads-none}
 use Rattle.proof_rows.proofs.JoinedLemmas.{EachNoContent, HasNoContent, events-no_content, front-no_content}
 use Rattle.proof_rows.proofs.JoinedLemmas.{rows_at-no_content, tail-no_content}
 use Rattle.markdown_blocks.proofs.ValidLemmas.{flow-ran}

@@ -16,19 +16,19 @@ use Rattle.md_meaning.specs.Step.{became}
 use Rattle.md_meaning.specs.Table.{row_cells}
 use Rattle.md_meaning.specs.Tree.{Blocks}
 use Rattle.md_events.specs.Events.Spelled.{OpenContainer, Reading, read}
-use Rattle.proof_table_laws.specs.Leaf.GfmTable.{first_cells, may_be_table, table_leaf}
+use Rattle.proof_leaf_laws.specs.Leaf.GfmTable.{first_cells, may_be_table, table_leaf}
 use Rattle.proof_frame.specs.Leaf.Paragraph.{held_of}
 use Rattle.proof_frame.specs.EndingName.{ending_name}
 use Rattle.proof_frame.specs.LeafName.{GfmTable, LeafName}
 use Rattle.proof_frame.specs.TextLines.{text_leaf}
 use Rattle.md_registry.specs.Registry.{leaf}
 use Rattle.proof_frame.specs.Row.{LeafRow, Row, TextRow, is_blank_row, last_row}
-use Rattle.proof_table_laws.specs.Headed.{headed_done}
+use Rattle.proof_leaf_laws.specs.Headed.{headed_done}
 use Rattle.proof_rows.specs.Rows.{Group, Headed, groups_events, tail_events}
 use Rattle.proof_frame.specs.Around.{around_of}
 use Rattle.proof_rows.specs.Valid.{reading, reading_on}
-use Rattle.proof_table_laws.proofs.GfmTable.TableForm.{IsFilledLine}
-use Rattle.proof_table_laws.proofs.GfmTable.TableLaws.{AreFilled, cells-trimmed, table-facts, table-shuts}
+use Rattle.proof_leaf_laws.proofs.GfmTable.TableForm.{IsFilledLine}
+use Rattle.proof_leaf_laws.proofs.GfmTable.TableLaws.{AreFilled, cells-trimmed, table-facts, table-shuts}
 use Rattle.proof_rows.proofs.HeadedTable.{line-filled}
 use Rattle.proof_rows.proofs.LineSteps.{longer, with_result}
 use Rattle.md_registry.proofs.Registry.{text-laws}

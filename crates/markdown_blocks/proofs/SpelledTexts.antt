@@ -16,8 +16,8 @@ use Rattle.proof_frame.specs.HeldLeaf.{may_continue}
 use Rattle.proof_rows.specs.Rows.{front_done, Headed, is_further, is_last, takes_head, LeafLines, Turned}
 use Rattle.proof_rows.specs.Rows.{line_following, Group, Lines, groups_events, onto_groups, tail_events}
 use Rattle.proof_frame.specs.Row.{Row, TextRow, last_row}
-use Rattle.proof_table_laws.specs.Headed.{headed_done}
-use Rattle.proof_table_laws.specs.Leaf.GfmTable.{table_leaf}
+use Rattle.proof_leaf_laws.specs.Headed.{headed_done}
+use Rattle.proof_leaf_laws.specs.Leaf.GfmTable.{table_leaf}
 use Rattle.proof_frame.specs.Leaf.Paragraph.{held_of}
 use Rattle.proof_rows.proofs.GroupLines.{kept-of}
 use Rattle.proof_rows.proofs.LineSteps.{with_result, longer}

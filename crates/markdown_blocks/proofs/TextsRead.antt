@@ -71,8 +71,8 @@ use Rattle.proof_rows.specs.Rows.{takes_head}
 use Rattle.proof_rows.specs.TextRows.{text_cells, text_rows, text_setting}
 use Rattle.proof_rows.specs.Unread.{unread_group, unread_groups}
 use Rattle.proof_rows.specs.WithoutMdx.{IsWithoutMdx}
-use Rattle.proof_table_laws.proofs.GfmTable.Head.{head-no_content}
-use Rattle.proof_table_laws.specs.Headed.{headed_row, heads_read}
+use Rattle.proof_leaf_laws.proofs.GfmTable.Head.{head-no_content}
+use Rattle.proof_leaf_laws.specs.Headed.{headed_row, heads_read}
 use Rattle.markdown_blocks.specs.ContentRead.{ReadIf, holds_content}
 use Rattle.markdown_blocks.specs.FlowReads.{IsFlowRead}
 use Rattle.markdown_blocks.specs.TextsRead.{AreGroupsRead, AreHeadRead, AreTextRead, AreTextsRead, IsGroupRead}

@@ -23,7 +23,7 @@ use Rattle.md_events.specs.Substituted.{Substituted}
 use Rattle.md_flow.specs.Nests.{TextsNest}
 use Rattle.markdown_blocks.specs.Fed.{FlowRan}
 use Rattle.proof_leaf_laws.specs.Front.{body_point}
-use Rattle.proof_table_laws.specs.Headed.{heads_read}
+use Rattle.proof_leaf_laws.specs.Headed.{heads_read}
 use Rattle.proof_frame.specs.Row.{Row}
 use Rattle.proof_rows.specs.Rows.{is_text, rows_events}
 use Rattle.proof_rows.specs.TextRows.{text_rows, text_setting}

@@ -7,9 +7,8 @@ pub mod heading_atx;
 pub mod heading_setext;
 pub mod list_item;
 
-pub use md_code::{code_indented, raw_flow};
 pub use md_containers::{block_quote, frontmatter, gfm_footnote_definition};
 pub use md_content::{content, paragraph};
-pub use md_html::html_flow;
 pub use md_leaves::{blank_line, partial_bom, partial_non_lazy_continuation, thematic_break};
 pub use md_link_definitions::definition;
+pub use md_literal::{code_indented, html_flow, raw_flow};

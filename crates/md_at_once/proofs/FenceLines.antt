@@ -1,8 +1,8 @@
 -- Further lines of fenced code and math that are taken in one call: each of their states leaves the text as it is, and
 -- where it stays, it stays where it was.
 use Rattle.std.proofs.Common.{◌≡◌, ◌≢◌, ◌∙◌, ◌&&◌, Bool, true, false, ap, nat_lt, refl, subst, sym}
-use Rattle.md_code.specs.Fence.{at_non_lazy_break_code, before_chunk_code, chunk_code, content_start_code}
-use Rattle.md_code.specs.Fence.{fence_transition, held_indent, may_close}
+use Rattle.md_literal.specs.Fence.{at_non_lazy_break_code, before_chunk_code, chunk_code, content_start_code}
+use Rattle.md_literal.specs.Fence.{fence_transition, held_indent, may_close}
 use Rattle.md_content.proofs.StaysLemmas.{not-ending}
 use Rattle.md_engine.specs.declared.state.raw_flow.State.TheVariants as its
 use Rattle.md_engine.specs.declared.state.Name.{Name as StateName}

@@ -10,7 +10,7 @@ use Rattle.md_engine.specs.World.{World, looks}
 use Rattle.md_engine.specs.declared.state.State.{State}
 use Rattle.md_engine.specs.declared.state.State.TheVariants.{Error}
 use Rattle.md_engine.proofs.Walks.{Within}
-use Rattle.md_html.specs.Html.{blank_move, close_code, ends_in_front, further_code, html_transition, moved}
+use Rattle.md_literal.specs.Html.{blank_move, close_code, ends_in_front, further_code, html_transition, moved}
 use Rattle.md_registry.proofs.LinesAtOnce.{Proceeds, Leaves, leaves-once}
 use Rattle.md_events.specs.Spaces.{ends_line, sees_white}
 use Rattle.md_events.specs.Stays.{TakesEach}

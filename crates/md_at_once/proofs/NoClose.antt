@@ -18,8 +18,8 @@ use Rattle.md_engine.specs.Scheme.{cells_left}
 use Rattle.md_engine.specs.World.{World, looks}
 use Rattle.md_engine.proofs.Loops.{ArrivedAt}
 use Rattle.md_engine.proofs.Walks.{Within, then-holds, then-stays, within-more, within-one}
-use Rattle.md_code.specs.Fence.{at_non_lazy_break_code, before_close_code, cleared, close_start_code, held_marker}
-use Rattle.md_code.specs.Fence.{line_entered}
+use Rattle.md_literal.specs.Fence.{at_non_lazy_break_code, before_close_code, cleared, close_start_code, held_marker}
+use Rattle.md_literal.specs.Fence.{line_entered}
 use Rattle.md_meaning.specs.Rest.{is_white}
 use Rattle.md_events.specs.Events.Nested.{enter, exit}
 use Rattle.md_events.specs.Look.{following_code, first_following, looks_after}

@@ -3,8 +3,9 @@
 use Rattle.std.proofs.Common.{◌≡◌, ◌<◌, ◌≤◌, ◌∙◌, ◌++◌, ◌&&◌, ◌||◌, ℕ, Bool, true, false, cond, List, [], ◌∷◌, ap, ap₂}
 use Rattle.std.proofs.Common.{Some, append_assoc, arith, length, nat_eq, nat_lt, refl, subst, sym}
 use Rattle.std.proofs.lemmas.Bool.{and_right}
-use Rattle.md_code.specs.Fence.{at_non_lazy_break_code, before_chunk_code, block_name, chunk_code, chunk_name, cleared}
-use Rattle.md_code.specs.Fence.{content_start_code, held_indent, held_marker, line_entered}
+use Rattle.md_literal.specs.Fence.{at_non_lazy_break_code, before_chunk_code, block_name, chunk_code, chunk_name}
+use Rattle.md_literal.specs.Fence.{cleared}
+use Rattle.md_literal.specs.Fence.{content_start_code, held_indent, held_marker, line_entered}
 use Rattle.md_engine.specs.declared.event.Event.{Event}
 use Rattle.md_engine.specs.declared.state.document.State.TheVariants as document
 use Rattle.md_engine.specs.declared.state.flow.State.TheVariants as flow

@@ -17,7 +17,7 @@ use Rattle.md_engine.specs.Full.Grown.{Containers, Frames, Resolvers}
 use Rattle.md_engine.specs.Going.{SeesOn}
 use Rattle.md_engine.specs.Run.{Runs, RunsHere, plain, reading}
 use Rattle.md_engine.specs.World.{World, looks, world as world_of}
-use Rattle.md_code.specs.Fence.{cleared, held_marker, line_entered}
+use Rattle.md_literal.specs.Fence.{cleared, held_marker, line_entered}
 use Rattle.md_meaning.specs.Ascii.{caret, left_bracket}
 use Rattle.md_meaning.specs.Rest.{is_white}
 use Rattle.md_events.specs.Look.{looks_after}

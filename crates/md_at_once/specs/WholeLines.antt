@@ -9,7 +9,7 @@ use Rattle.md_engine.specs.declared.state.State.TheVariants.{Next}
 use Rattle.md_engine.specs.declared.tokenizer.Frame.{Frame}
 use Rattle.md_engine.specs.declared.tokenizer.held_leaf.HeldLeaf.{HeldLeaf}
 use Rattle.md_engine.specs.World.{World}
-use Rattle.md_code.specs.Fence.{block_name, chunk_name, cleared, held_indent, held_marker, is_open}
+use Rattle.md_literal.specs.Fence.{block_name, chunk_name, cleared, held_indent, held_marker, is_open}
 use Rattle.md_leaves.specs.Further.{further_link}
 use Rattle.md_registry.specs.LineFlags.{blank_here}
 use Rattle.md_events.specs.Events.Nested.{enter, exit}

@@ -7,7 +7,7 @@
 // this one.
 
 ghost use Rattle.std.specs.Prelude.{◌≡◌, OnOk, is_err, true};
-ghost use Rattle.md_code.specs.Fence.{FenceNeeds, block_name, chunk_name, cleared, held_indent, held_marker};
+ghost use Rattle.md_literal.specs.Fence.{FenceNeeds, block_name, chunk_name, cleared, held_indent, held_marker};
 ghost use Rattle.md_engine.specs.Full.{Grown, IsFullList};
 ghost use Rattle.md_engine.specs.Place.{IsPlaced};
 ghost use Rattle.md_engine.specs.World.{world};
@@ -21,8 +21,6 @@ ghost use Rattle.md_events.specs.Spaces.{calmed};
 ghost use Rattle.md_events.specs.Transition.{IsAt, NeedsNothing};
 
 use crate::line_ends::{end, line_end};
-use md_code::fence_parts::{block_name, chunk_name, held_indent, held_marker};
-use md_code::raw_flow;
 use md_engine::class::is_white;
 use md_engine::event::{Event, Kind, Point};
 use md_engine::message::Message;
@@ -35,6 +33,8 @@ use md_events::space_or_tab::{is_space_or_tab, look_after_white};
 use md_flow::document;
 use md_leaves::blank_line;
 use md_leaves::further::FURTHER;
+use md_literal::fence_parts::{block_name, chunk_name, held_indent, held_marker};
+use md_literal::raw_flow;
 
 /// Whether what is left of a line is next.
 #[inline(always)]

@@ -11,7 +11,7 @@ ghost use Rattle.md_engine.specs.declared.state.Name.{Name as StateName};
 ghost use Rattle.md_engine.specs.declared.state.State.{State};
 ghost use Rattle.md_engine.specs.declared.state.html_flow.State.{State as HtmlState};
 ghost use Rattle.md_at_once.specs.AtOnce.{IsFlowRun, IsRunInLine};
-ghost use Rattle.md_html.specs.Html.{HtmlNeeds};
+ghost use Rattle.md_literal.specs.Html.{HtmlNeeds};
 ghost use Rattle.md_registry.specs.States.{flow_table_scheme};
 ghost use Rattle.md_events.specs.Transition.{IsAt};
 ghost use Rattle.md_tables.specs.GfmTable.{AnswersWith};
@@ -20,8 +20,8 @@ use crate::line_ends::end;
 use md_engine::state::html_flow::State as HtmlState;
 use md_engine::state::{Name as StateName, State};
 use md_engine::tokenizer::Tokenizer;
-use md_html::html_flow;
 use md_leaves::blank_line;
+use md_literal::html_flow;
 
 /// The state of HTML of this name, if it is one.
 #[inline(always)]

@@ -7,7 +7,7 @@ use Rattle.md_content.proofs.NestsLemmas.{given-nested}
 use Rattle.md_content.specs.Resolves.{Resolves}
 use Rattle.md_events.specs.Events.Nested.{Nested}
 use Rattle.md_flow.specs.Nests.{TextsNest}
-use Rattle.proof_table_laws.specs.Headed.{heads_read}
+use Rattle.proof_leaf_laws.specs.Headed.{heads_read}
 
 -- what is read of a world
 reads-nested : (old new : World) (found : Option Found) →

@@ -13,7 +13,7 @@ use Rattle.md_order.specs.HeadingsNest.{HeadingsNest}
 use Rattle.md_order.specs.Nests.{ListsNest}
 use Rattle.md_order.specs.TablesNest.{TablesNest}
 use Rattle.md_order.specs.TurnsNest.{TurnsNest}
-use Rattle.proof_table_laws.specs.Headed.{heads_read}
+use Rattle.proof_leaf_laws.specs.Headed.{heads_read}
 
 -- Of lines of text, first of those that are heads of tables and then of the others, all that is read nests where they
 -- are.

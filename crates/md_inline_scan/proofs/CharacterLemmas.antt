@@ -2,7 +2,7 @@
 use Rattle.std.proofs.Common.{◌≡◌, ℕ, Bool, true, false, List, None, refl}
 use Rattle.std.specs.Str.{IsUtf8, is_utf8}
 use Rattle.std.proofs.lemmas.Str.{IsUtf8-from_is_utf8}
-use Rattle.md_inline_grammars.specs.Characters.{character}
+use Rattle.md_inlines.specs.Characters.{character}
 
 pub character-none : (bytes : List ℕ) → ¬ (IsUtf8 bytes) → None ≡ character bytes
 character-none bytes h = go (is_utf8 bytes) refl

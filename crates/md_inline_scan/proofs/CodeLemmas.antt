@@ -5,7 +5,7 @@ use Rattle.std.specs.Prelude.{◌==◌, option_map}
 use Rattle.std.proofs.lemmas.Bool.Decides.{nat_tests}
 use Rattle.std.proofs.lemmas.List.{length-drop}
 use Rattle.md_meaning.specs.Rest.{run_len}
-use Rattle.md_inline_grammars.specs.Code.{before_run}
+use Rattle.md_inlines.specs.Code.{before_run}
 
 abbrev pub further : ℕ → Option ℕ → Option ℕ
 further n found = option_map (λ len. n + len) found

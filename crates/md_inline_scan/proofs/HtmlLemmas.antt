@@ -8,10 +8,10 @@ use Rattle.md_meaning.specs.Lines.{begins_with}
 use Rattle.md_meaning.specs.Rest.{is_white, trim_start}
 use Rattle.md_meaning.proofs.HtmlLemmas.{length-after, length-after-lt, length-after_next, length-after_optional}
 use Rattle.std.proofs.lemmas.List.{length-drop}
-use Rattle.md_inline_grammars.specs.Characters.{is_gap}
-use Rattle.md_inline_grammars.specs.RawHtml.{after_assignment, after_attribute, after_attributes, after_value}
-use Rattle.md_inline_grammars.specs.RawHtml.{is_value_byte, repeated}
-use Rattle.md_inline_grammars.specs.Target.{after_gap}
+use Rattle.md_inlines.specs.Characters.{is_gap}
+use Rattle.md_inlines.specs.RawHtml.{after_assignment, after_attribute, after_attributes, after_value}
+use Rattle.md_inlines.specs.RawHtml.{is_value_byte, repeated}
+use Rattle.md_inlines.specs.Target.{after_gap}
 
 pub length-after_gap : (xs : List ℕ) → length (after_gap xs) ≤ length xs
 length-after_gap xs =

@@ -6,8 +6,8 @@ use Rattle.std.specs.List.{list_all, onto_first, slice_split}
 use Rattle.std.proofs.lemmas.List.Splits.{slice_split-cons_no, slice_split-cons_yes}
 use Rattle.std.proofs.lemmas.List.Sums.{sum_by-cons}
 use Rattle.md_meaning.specs.Rest.{is_blank, is_white}
-use Rattle.md_inline_grammars.specs.Characters.{is_gap}
-use Rattle.md_inline_grammars.specs.Target.{is_label}
+use Rattle.md_inlines.specs.Characters.{is_gap}
+use Rattle.md_inlines.specs.Target.{is_label}
 
 abbrev is_feed : ℕ → Bool
 is_feed b = b == 10

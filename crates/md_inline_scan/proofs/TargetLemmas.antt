@@ -4,7 +4,7 @@ use Rattle.std.proofs.Common.{Option, Some, None, refl, ap, sym, ◌∙◌, arit
 use Rattle.std.specs.Prelude.{◌==◌, option_map}
 use Rattle.std.proofs.lemmas.Bool.Decides.{nat_tests}
 use Rattle.md_meaning.specs.Enclosed.{Broken, Closed, Enclosed, Open, enclosed, with_byte}
-use Rattle.md_inline_grammars.specs.Target.{closed, depth_after, ends_raw, is_escaped_after, is_too_deep, raw_len}
+use Rattle.md_inlines.specs.Target.{closed, depth_after, ends_raw, is_escaped_after, is_too_deep, raw_len}
 use Rattle.md_inline_scan.proofs.CodeLemmas.{further, further-further, further-suc}
 
 -- a text between marks is shorter than what it was cut from

@@ -4,8 +4,8 @@ use Rattle.std.specs.List.{list_any}
 use Rattle.std.specs.Char.{is_ascii_alphanumeric, is_ascii_digit, is_ascii_hexdigit}
 use Rattle.md_meaning.specs.Ascii.{dot}
 use Rattle.md_meaning.specs.Html.{is_attribute_byte, is_tag_byte}
-use Rattle.md_inline_grammars.specs.Autolink.{is_host_byte, is_local_byte, is_scheme_byte, is_uri_byte}
-use Rattle.md_inline_grammars.specs.RawHtml.{is_value_byte}
+use Rattle.md_inlines.specs.Autolink.{is_host_byte, is_local_byte, is_scheme_byte, is_uri_byte}
+use Rattle.md_inlines.specs.RawHtml.{is_value_byte}
 use Rattle.md_inline_scan.specs.declared.class.Class.{Class}
 use Rattle.md_inline_scan.specs.declared.class.Class.TheVariants as c
 

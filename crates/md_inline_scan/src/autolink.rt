@@ -1,13 +1,13 @@
 // Autolinks between angle brackets (CommonMark 6.5), given after their `<`.
 ghost use Rattle.std.specs.Prelude.{◌≡◌, ◌+◌, ◌^◌, ◌<◌, length, reverse};
 ghost use Rattle.md_meaning.specs.Lines as lines;
-ghost use Rattle.md_inline_grammars.specs.Autolink as autolink;
+ghost use Rattle.md_inlines.specs.Autolink as autolink;
 
 use crate::class::{Class, begins_letter, class_len};
 use md_scan::ahead::begins_with;
 
 /// How many bytes an absolute URI has that comes first, if a `>` follows it.
-#[tactic(auto, unfolding(md_inline_grammars::specs::Autolink::uri_len))]
+#[tactic(auto, unfolding(md_inlines::specs::Autolink::uri_len))]
 pub fn uri_len(text: &[u8]) -> Option<usize>
     ensures { result ≡ autolink.uri_len text.now }
 {
@@ -78,7 +78,7 @@ fn host_len(text: &[u8]) -> Option<usize>
 }
 
 /// How many bytes an e-mail address has that comes first, if a `>` follows it.
-#[tactic(auto, unfolding(md_inline_grammars::specs::Autolink::email_len))]
+#[tactic(auto, unfolding(md_inlines::specs::Autolink::email_len))]
 pub fn email_len(text: &[u8]) -> Option<usize>
     ensures { result ≡ autolink.email_len text.now }
 {

@@ -1,7 +1,7 @@
 // Line breaks (CommonMark 6.7, 6.8).
 ghost use Rattle.std.specs.Prelude.{◌≡◌, ◌≤◌, ◌==◌, length};
 ghost use Rattle.std.specs.List.{suffix_len};
-ghost use Rattle.md_inline_grammars.specs.Breaks as breaks;
+ghost use Rattle.md_inlines.specs.Breaks as breaks;
 
 use md_scan::ahead::begins_with;
 use md_scan::bytes::white_len;
@@ -24,7 +24,7 @@ pub fn is_break_escape(text: &[u8]) -> bool
 }
 
 /// How many spaces and tabs come first, if the line ends after them.
-#[tactic(auto, unfolding(md_inline_grammars::specs::Breaks::trailing_len))]
+#[tactic(auto, unfolding(md_inlines::specs::Breaks::trailing_len))]
 pub fn trailing_len(text: &[u8]) -> usize
     ensures value { result ≡ breaks.trailing_len text.now }
     ensures bound { result ≤ length text.now }
@@ -46,7 +46,7 @@ fn space_end_len(text: &[u8]) -> usize
 }
 
 /// How many of these spaces and tabs make a hard break.
-#[tactic(auto, unfolding(md_inline_grammars::specs::Breaks::break_len))]
+#[tactic(auto, unfolding(md_inlines::specs::Breaks::break_len))]
 pub fn break_len(text: &[u8]) -> usize
     ensures { result ≡ breaks.break_len text.now }
 {

@@ -1,8 +1,8 @@
 // Code spans (CommonMark 6.1), and math, which is read as they are.
 ghost use Rattle.std.specs.Prelude.{◌≡◌, false};
-ghost use Rattle.md_inline_grammars.specs.Code as code;
+ghost use Rattle.md_inlines.specs.Code as code;
 
-use md_inline_grammars::Raw;
+use md_inlines::Raw;
 use md_scan::bytes::run_len;
 
 /// How many bytes are before the next run of exactly so many of a byte.
@@ -25,7 +25,7 @@ fn before_run(mark: u8, size: usize, text: &[u8]) -> Option<usize>
 }
 
 /// The run of this byte that comes first, and what is between it and the next of its size.
-#[tactic(auto, unfolding(md_inline_grammars::specs::Code::raw_at))]
+#[tactic(auto, unfolding(md_inlines::specs::Code::raw_at))]
 pub fn raw_at(mark: u8, text: &[u8]) -> Option<Raw>
     ensures { result ≡ code.raw_at mark text.now }
 {

@@ -1,11 +1,11 @@
 // Escapes and character references (CommonMark 2.4, 2.5).
 ghost use Rattle.std.specs.Prelude.{◌≡◌};
-ghost use Rattle.md_inline_grammars.specs.Escape as escape;
+ghost use Rattle.md_inlines.specs.Escape as escape;
 ghost use Rattle.md_inline_scan.specs.Classes.{is_in};
 
 use crate::class::{Class, class_len};
 use md_entities::is_name;
-use md_inline_grammars::Reference;
+use md_inlines::Reference;
 use md_scan::ahead::begins_with;
 
 /// Whether an escape comes first: a backslash before ASCII punctuation.
@@ -64,7 +64,7 @@ fn numeric(text: &[u8]) -> Option<Reference>
 }
 
 /// The character reference whose `&` is before this text.
-#[tactic(auto, unfolding(md_inline_grammars::specs::Escape::reference_at))]
+#[tactic(auto, unfolding(md_inlines::specs::Escape::reference_at))]
 pub fn reference_at(text: &[u8]) -> Option<Reference>
     ensures { result ≡ escape.reference_at text.now }
 {

@@ -1,10 +1,10 @@
 // Delimiter runs, and the characters beside them (CommonMark 2.1, 6.2).
 ghost use Rattle.std.specs.Prelude.{◌≡◌, ◌≤◌, length, slice_get};
 ghost use Rattle.std.specs.List.{prefix_len, suffix_len};
-ghost use Rattle.md_inline_grammars.specs.Characters as characters;
-ghost use Rattle.md_inline_grammars.specs.Flanking as flanking;
+ghost use Rattle.md_inlines.specs.Characters as characters;
+ghost use Rattle.md_inlines.specs.Flanking as flanking;
 
-use md_inline_grammars::{Run, Side};
+use md_inlines::{Run, Side};
 use md_scan::bytes::run_len;
 use ucd_category::{GeneralCategory, GeneralCategoryGroup};
 
@@ -56,7 +56,7 @@ fn character(bytes: &[u8]) -> Option<char>
 }
 
 /// What these bytes of a character are beside a run.
-#[tactic(auto, unfolding(md_inline_grammars::specs::Characters::side))]
+#[tactic(auto, unfolding(md_inlines::specs::Characters::side))]
 fn side(bytes: &[u8]) -> Side
     ensures { result ≡ characters.side bytes.now }
 {
@@ -140,7 +140,7 @@ fn closes(mark: u8, before: Side, after: Side) -> bool
 }
 
 /// The run of this byte that comes first in a text, after another.
-#[tactic(auto, unfolding(md_inline_grammars::specs::Flanking::run_at))]
+#[tactic(auto, unfolding(md_inlines::specs::Flanking::run_at))]
 pub fn run_at(mark: u8, before: &[u8], text: &[u8]) -> Run
     ensures { result ≡ flanking.run_at mark before.now text.now }
 {

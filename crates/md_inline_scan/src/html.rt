@@ -3,9 +3,9 @@
 ghost use Rattle.std.specs.Prelude.{◌≡◌, ◌≤◌, length, option_copied};
 ghost use Rattle.md_meaning.specs.Bytes as ahead;
 ghost use Rattle.md_meaning.specs.Html as h;
-ghost use Rattle.md_inline_grammars.specs.Characters as characters;
-ghost use Rattle.md_inline_grammars.specs.RawHtml as html;
-ghost use Rattle.md_inline_grammars.specs.Target as target;
+ghost use Rattle.md_inlines.specs.Characters as characters;
+ghost use Rattle.md_inlines.specs.RawHtml as html;
+ghost use Rattle.md_inlines.specs.Target as target;
 ghost use Rattle.md_inline_scan.specs.Classes as classes;
 
 use crate::class::{Class, begins_letter, class_len, is_in};
@@ -86,7 +86,7 @@ fn after_word<'a>(word: &[u8], text: &'a [u8]) -> Option<&'a [u8]>
 }
 
 /// What follows the value of an attribute.
-#[tactic(auto, unfolding(md_inline_grammars::specs::RawHtml::after_value))]
+#[tactic(auto, unfolding(md_inlines::specs::RawHtml::after_value))]
 fn after_value(text: &[u8]) -> Option<&[u8]>
     ensures { option_copied result ≡ html.after_value text.now }
 {
@@ -98,7 +98,7 @@ fn after_value(text: &[u8]) -> Option<&[u8]>
 }
 
 /// What follows the value of an attribute that may have one, after its name.
-#[tactic(auto, unfolding(md_inline_grammars::specs::RawHtml::after_assignment))]
+#[tactic(auto, unfolding(md_inlines::specs::RawHtml::after_assignment))]
 fn after_assignment(text: &[u8]) -> Option<&[u8]>
     ensures { option_copied result ≡ html.after_assignment text.now }
 {
@@ -109,7 +109,7 @@ fn after_assignment(text: &[u8]) -> Option<&[u8]>
 }
 
 /// What follows an attribute: whitespace, a name, and perhaps `=` and a value.
-#[tactic(auto, unfolding(md_inline_grammars::specs::RawHtml::after_attribute))]
+#[tactic(auto, unfolding(md_inlines::specs::RawHtml::after_attribute))]
 fn after_attribute(text: &[u8]) -> Option<&[u8]>
     ensures { option_copied result ≡ html.after_attribute text.now }
 {
@@ -133,7 +133,7 @@ fn after_attributes(text: &[u8]) -> &[u8]
 }
 
 /// What follows an opening tag, after its name.
-#[tactic(auto, unfolding(md_inline_grammars::specs::RawHtml::after_opening))]
+#[tactic(auto, unfolding(md_inlines::specs::RawHtml::after_opening))]
 fn after_opening(text: &[u8]) -> Option<&[u8]>
     ensures { option_copied result ≡ html.after_opening text.now }
 {
@@ -144,7 +144,7 @@ fn after_opening(text: &[u8]) -> Option<&[u8]>
 }
 
 /// What follows a closing tag, after its `</`.
-#[tactic(auto, unfolding(md_inline_grammars::specs::RawHtml::after_closing))]
+#[tactic(auto, unfolding(md_inlines::specs::RawHtml::after_closing))]
 fn after_closing(text: &[u8]) -> Option<&[u8]>
     ensures { option_copied result ≡ html.after_closing text.now }
 {
@@ -156,7 +156,7 @@ fn after_closing(text: &[u8]) -> Option<&[u8]>
 }
 
 /// What follows a comment, after its `<!--`.
-#[tactic(auto, unfolding(md_inline_grammars::specs::RawHtml::after_comment))]
+#[tactic(auto, unfolding(md_inlines::specs::RawHtml::after_comment))]
 fn after_comment(text: &[u8]) -> Option<&[u8]>
     ensures { option_copied result ≡ html.after_comment text.now }
 {
@@ -170,7 +170,7 @@ fn after_comment(text: &[u8]) -> Option<&[u8]>
 }
 
 /// What follows a comment, a CDATA section or a declaration, after its `<!`.
-#[tactic(auto, unfolding(md_inline_grammars::specs::RawHtml::after_marked))]
+#[tactic(auto, unfolding(md_inlines::specs::RawHtml::after_marked))]
 fn after_marked(text: &[u8]) -> Option<&[u8]>
     ensures { option_copied result ≡ html.after_marked text.now }
 {
@@ -186,7 +186,7 @@ fn after_marked(text: &[u8]) -> Option<&[u8]>
 }
 
 /// What follows the HTML whose `<` is before this text.
-#[tactic(auto, unfolding(md_inline_grammars::specs::RawHtml::after_html))]
+#[tactic(auto, unfolding(md_inlines::specs::RawHtml::after_html))]
 pub fn after_html(text: &[u8]) -> Option<&[u8]>
     ensures { option_copied result ≡ html.after_html text.now }
 {

@@ -1,4 +1,4 @@
-// Inline constructs by plain functions over bytes: each returns what its definition in `md_inline_grammars` gives.
+// Inline constructs by plain functions over bytes: each returns what its definition in `md_inlines` gives.
 #![tactic(auto)]
 
 pub mod autolink;

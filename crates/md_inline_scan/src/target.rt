@@ -1,12 +1,12 @@
 // What a link or an image leads to (CommonMark 6.3): labels and resources.
 ghost use Rattle.std.specs.Prelude.{◌≡◌, ◌≤◌, ◌<◌, ◌==◌, false, length, count_by, IfSome};
 ghost use Rattle.std.specs.List.{list_any, list_all};
-ghost use Rattle.md_inline_grammars.specs.Characters as characters;
-ghost use Rattle.md_inline_grammars.specs.Target as target;
+ghost use Rattle.md_inlines.specs.Characters as characters;
+ghost use Rattle.md_inlines.specs.Target as target;
 ghost use Rattle.md_meaning.specs.Definition as definition;
 
 use crate::html::after_gap;
-use md_inline_grammars::Resource;
+use md_inlines::Resource;
 use md_scan::ahead::begins_with;
 use md_scan::bytes::is_white;
 use md_scan::definition::{Enclosed, title_closer, up_to_mark};
@@ -52,7 +52,7 @@ fn has_ending(text: &[u8]) -> bool
 }
 
 /// How many bytes of a label are before its `]`, whose `[` is before this text.
-#[tactic(auto, unfolding(md_inline_grammars::specs::Target::label_len))]
+#[tactic(auto, unfolding(md_inlines::specs::Target::label_len))]
 pub fn label_len(text: &[u8]) -> Option<usize>
     ensures value { result ≡ target.label_len text.now }
     ensures bound { IfSome result (λ len. len < length text.now) }
@@ -66,7 +66,7 @@ pub fn label_len(text: &[u8]) -> Option<usize>
 }
 
 /// How many bytes of a destination are before its `>`, whose `<` is before this text.
-#[tactic(auto, unfolding(md_inline_grammars::specs::Target::literal_len))]
+#[tactic(auto, unfolding(md_inlines::specs::Target::literal_len))]
 fn literal_len(text: &[u8]) -> Option<usize>
     ensures value { result ≡ target.literal_len text.now }
     ensures bound { IfSome result (λ len. len < length text.now) }
@@ -152,7 +152,7 @@ fn raw_len(text: &[u8]) -> Option<usize>
 }
 
 /// How many bytes a destination has, with its angle brackets if it has some.
-#[tactic(auto, unfolding(md_inline_grammars::specs::Target::destination_len))]
+#[tactic(auto, unfolding(md_inlines::specs::Target::destination_len))]
 fn destination_len(text: &[u8]) -> Option<usize>
     ensures value { result ≡ target.destination_len text.now }
     ensures bound { IfSome result (λ len. len ≤ length text.now) }
@@ -167,7 +167,7 @@ fn destination_len(text: &[u8]) -> Option<usize>
 }
 
 /// How many bytes the title has that comes first, with its marks.
-#[tactic(auto, unfolding(md_inline_grammars::specs::Target::title_len))]
+#[tactic(auto, unfolding(md_inlines::specs::Target::title_len))]
 fn title_len(text: &[u8]) -> Option<usize>
     ensures value { result ≡ target.title_len text.now }
     ensures bound { IfSome result (λ len. len ≤ length text.now) }
@@ -234,7 +234,7 @@ fn with_destination(text: &[u8], len: usize) -> Option<Resource>
 }
 
 /// The resource whose `(` is before this text.
-#[tactic(auto, unfolding(md_inline_grammars::specs::Target::resource_at))]
+#[tactic(auto, unfolding(md_inlines::specs::Target::resource_at))]
 pub fn resource_at(text: &[u8]) -> Option<Resource>
     ensures { result ≡ target.resource_at text.now }
 {

@@ -1,6 +1,6 @@
 // The check of a task item (GFM 5.3).
 ghost use Rattle.std.specs.Prelude.{◌≡◌};
-ghost use Rattle.md_inline_grammars.specs.Task as task;
+ghost use Rattle.md_inlines.specs.Task as task;
 
 use crate::html::begins_gap;
 

@@ -2,8 +2,8 @@
 use Rattle.std.proofs.Common.{◌≡◌, ℕ, Bool, true, false, List, ◌∷◌, ◌++◌, refl}
 use Rattle.std.specs.Prelude.{codes}
 use Rattle.md_inline_events.specs.Forest.{Forest}
-use Rattle.md_inline_grammars.proofs.Computing.{grammars}
-use Rattle.md_inline_grammars.specs.declared.TheConstants.InlineConstructs.{COMMONMARK}
+use Rattle.md_inlines.proofs.Computing.{grammars}
+use Rattle.md_inlines.specs.declared.TheConstants.InlineConstructs.{COMMONMARK}
 use Rattle.md_inlines.specs.Content.{forest}
 use Rattle.md_inlines.proofs.Shapes.{code_span, em, end, raw_html, spaces_break, text, trailing}
 

@@ -2,8 +2,8 @@
 use Rattle.std.proofs.Common.{◌≡◌, ℕ, Bool, true, false, List, ◌∷◌, ◌++◌, refl}
 use Rattle.std.specs.Prelude.{codes}
 use Rattle.md_inline_events.specs.Forest.{Forest}
-use Rattle.md_inline_grammars.proofs.Computing.{grammars}
-use Rattle.md_inline_grammars.specs.declared.TheConstants.InlineConstructs.{COMMONMARK}
+use Rattle.md_inlines.proofs.Computing.{grammars}
+use Rattle.md_inlines.specs.declared.TheConstants.InlineConstructs.{COMMONMARK}
 use Rattle.md_inlines.specs.Content.{forest}
 use Rattle.md_inlines.proofs.Shapes.{end, escaped, image_of, leads, link_of, raw_html, text, titled}
 

@@ -1,3 +1,4 @@
+pub mod Computing
 mod Shapes
 mod EscapesRows
 mod NumbersRows

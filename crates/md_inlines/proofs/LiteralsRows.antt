@@ -5,8 +5,8 @@ use Rattle.std.specs.Str.{bytes_eq}
 use Rattle.md_engine.specs.declared.event.Name.TheVariants as n
 use Rattle.md_entities.specs.Names.{is_name, names, place_of}
 use Rattle.md_inline_events.specs.Forest.{Forest}
-use Rattle.md_inline_grammars.proofs.Computing.{grammars, literals, characters}
-use Rattle.md_inline_grammars.specs.declared.TheConstants.InlineConstructs.{ALL}
+use Rattle.md_inlines.proofs.Computing.{grammars, literals, characters}
+use Rattle.md_inlines.specs.declared.TheConstants.InlineConstructs.{ALL}
 use Rattle.md_inlines.specs.Content.{forest}
 use Rattle.md_inlines.proofs.Shapes.{code_span, em, end, image_of, leads, link_of, literal, text}
 

@@ -4,8 +4,8 @@ use Rattle.std.specs.Prelude.{codes}
 use Rattle.std.specs.List.{list_any}
 use Rattle.std.specs.Str.{bytes_eq}
 use Rattle.md_inline_events.specs.Forest.{Forest}
-use Rattle.md_inline_grammars.proofs.Computing.{grammars}
-use Rattle.md_inline_grammars.specs.declared.TheConstants.InlineConstructs.{COMMONMARK}
+use Rattle.md_inlines.proofs.Computing.{grammars}
+use Rattle.md_inlines.specs.declared.TheConstants.InlineConstructs.{COMMONMARK}
 use Rattle.md_inlines.specs.Content.{forest}
 use Rattle.md_inlines.proofs.Shapes.{code_span, em, end, escaped, image_of, leads, link_of, refers, text}
 

@@ -3,8 +3,8 @@ use Rattle.std.proofs.Common.{◌≡◌, ℕ, true, false, List, refl}
 use Rattle.std.specs.Prelude.{codes}
 use Rattle.std.specs.Str.{bytes_eq}
 use Rattle.md_inline_events.specs.Forest.{Forest}
-use Rattle.md_inline_grammars.proofs.Computing.{grammars, literals}
-use Rattle.md_inline_grammars.specs.declared.TheConstants.InlineConstructs.{ALL}
+use Rattle.md_inlines.proofs.Computing.{grammars, literals}
+use Rattle.md_inlines.specs.declared.TheConstants.InlineConstructs.{ALL}
 use Rattle.md_inlines.specs.Content.{forest}
 use Rattle.md_inlines.proofs.Shapes.{call_of, em, end, strike, strong, text}
 

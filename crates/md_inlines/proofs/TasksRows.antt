@@ -4,8 +4,8 @@ use Rattle.std.specs.Prelude.{codes}
 use Rattle.std.specs.Str.{bytes_eq}
 use Rattle.md_engine.specs.declared.event.Name.TheVariants as n
 use Rattle.md_inline_events.specs.Forest.{Forest}
-use Rattle.md_inline_grammars.proofs.Computing.{grammars, literals}
-use Rattle.md_inline_grammars.specs.declared.TheConstants.InlineConstructs.{ALL}
+use Rattle.md_inlines.proofs.Computing.{grammars, literals}
+use Rattle.md_inlines.specs.declared.TheConstants.InlineConstructs.{ALL}
 use Rattle.md_inlines.specs.Content.{forest}
 use Rattle.md_inlines.proofs.Shapes.{em, end, task, text}
 

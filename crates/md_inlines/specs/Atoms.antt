@@ -7,17 +7,17 @@ use Rattle.md_meaning.specs.Ascii.{backtick, dollar, less_than}
 use Rattle.md_meaning.specs.Lines.{begins_with}
 use Rattle.md_meaning.specs.Rest.{run_len}
 use Rattle.md_inline_events.specs.Forest.{Forest, nothing, over, part, piece}
-use Rattle.md_inline_grammars.specs.Autolink as autolink
-use Rattle.md_inline_grammars.specs.Breaks.{break_len, is_break_escape, trailing_len}
-use Rattle.md_inline_grammars.specs.Code.{raw_at}
-use Rattle.md_inline_grammars.specs.Escape.{ampersand, is_escape, reference_at}
-use Rattle.md_inline_grammars.specs.Literal.{Literal, literal_at}
-use Rattle.md_inline_grammars.specs.RawHtml.{after_html}
-use Rattle.md_inline_grammars.specs.declared.InlineOptions.{InlineOptions}
-use Rattle.md_inline_grammars.specs.declared.LiteralKind.{LiteralKind}
-use Rattle.md_inline_grammars.specs.declared.LiteralKind.TheVariants as literal
-use Rattle.md_inline_grammars.specs.declared.Raw.{Raw}
-use Rattle.md_inline_grammars.specs.declared.Reference.{Reference}
+use Rattle.md_inlines.specs.Autolink as autolink
+use Rattle.md_inlines.specs.Breaks.{break_len, is_break_escape, trailing_len}
+use Rattle.md_inlines.specs.Code.{raw_at}
+use Rattle.md_inlines.specs.Escape.{ampersand, is_escape, reference_at}
+use Rattle.md_inlines.specs.Literal.{Literal, literal_at}
+use Rattle.md_inlines.specs.RawHtml.{after_html}
+use Rattle.md_inlines.specs.declared.InlineOptions.{InlineOptions}
+use Rattle.md_inlines.specs.declared.LiteralKind.{LiteralKind}
+use Rattle.md_inlines.specs.declared.LiteralKind.TheVariants as literal
+use Rattle.md_inlines.specs.declared.Raw.{Raw}
+use Rattle.md_inlines.specs.declared.Reference.{Reference}
 
 -- a forest, if a construct is on
 abbrev pub when : Bool → Option Forest → Option Forest

@@ -9,9 +9,9 @@ use Rattle.md_engine.specs.declared.event.Name.TheVariants as n
 use Rattle.md_meaning.specs.Ascii.{asterisk, caret, exclamation_mark, left_bracket, right_bracket, tilde, underscore}
 use Rattle.md_meaning.specs.Lines.{begins_with}
 use Rattle.md_inline_events.specs.Forest.{Forest, nothing, over, size}
-use Rattle.md_inline_grammars.specs.Flanking.{run_at}
-use Rattle.md_inline_grammars.specs.declared.InlineOptions.{InlineOptions}
-use Rattle.md_inline_grammars.specs.declared.Run.{Run}
+use Rattle.md_inlines.specs.Flanking.{run_at}
+use Rattle.md_inlines.specs.declared.InlineOptions.{InlineOptions}
+use Rattle.md_inlines.specs.declared.Run.{Run}
 use Rattle.md_inlines.specs.Atoms.{atom}
 use Rattle.md_inlines.specs.Emphasis.{Item, emphasis, read, run}
 use Rattle.md_inlines.specs.Targets.{call, image, is_call, link, target}

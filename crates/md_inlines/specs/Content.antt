@@ -5,9 +5,9 @@ use Rattle.std.specs.Str.{bytes_eq}
 use Rattle.md_engine.specs.declared.event.Name.TheVariants as n
 use Rattle.md_meaning.specs.Label.{Labels, normal_form}
 use Rattle.md_inline_events.specs.Forest.{Forest, nothing, part}
-use Rattle.md_inline_grammars.specs.Target.{lines}
-use Rattle.md_inline_grammars.specs.Task.{is_checked, is_task}
-use Rattle.md_inline_grammars.specs.declared.InlineOptions.{InlineOptions}
+use Rattle.md_inlines.specs.Target.{lines}
+use Rattle.md_inlines.specs.Task.{is_checked, is_task}
+use Rattle.md_inlines.specs.declared.InlineOptions.{InlineOptions}
 use Rattle.md_inlines.specs.Atoms.{byte, merged}
 use Rattle.md_inlines.specs.Brackets as brackets
 use Rattle.md_inlines.specs.Emails.{with_emails}

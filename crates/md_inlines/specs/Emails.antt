@@ -4,7 +4,7 @@ use Rattle.std.specs.Prelude.{Some, None}
 use Rattle.md_engine.specs.declared.event.Name.{Name}
 use Rattle.md_engine.specs.declared.event.Name.TheVariants as n
 use Rattle.md_inline_events.specs.Forest.{Forest, nothing, over, part, piece, size}
-use Rattle.md_inline_grammars.specs.Literal.{email_at}
+use Rattle.md_inlines.specs.Literal.{email_at}
 use Rattle.md_inlines.specs.Atoms.{beside, byte, is_data, literal_name}
 
 -- the parts whose text is searched

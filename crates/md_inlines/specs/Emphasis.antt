@@ -9,7 +9,7 @@ use Rattle.md_engine.specs.declared.event.Name.{Name}
 use Rattle.md_engine.specs.declared.event.Name.TheVariants as n
 use Rattle.md_meaning.specs.Ascii.{tilde}
 use Rattle.md_inline_events.specs.Forest.{Forest, nothing, over, part}
-use Rattle.md_inline_grammars.specs.declared.Run.{Run}
+use Rattle.md_inlines.specs.declared.Run.{Run}
 use Rattle.md_inlines.specs.Atoms.{beside}
 
 -- An item of a level: what is read already, or a run.

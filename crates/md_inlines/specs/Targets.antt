@@ -6,10 +6,10 @@ use Rattle.md_engine.specs.declared.event.Name.TheVariants as n
 use Rattle.md_meaning.specs.Ascii.{caret, left_bracket, left_parenthesis, right_bracket}
 use Rattle.md_meaning.specs.Lines.{begins_with}
 use Rattle.md_inline_events.specs.Forest.{Forest, nothing, over, part, size}
-use Rattle.md_inline_grammars.specs.Characters.{is_gap}
-use Rattle.md_inline_grammars.specs.Target.{is_own_label, label_len, resource_at}
-use Rattle.md_inline_grammars.specs.declared.InlineOptions.{InlineOptions}
-use Rattle.md_inline_grammars.specs.declared.Resource.{Resource}
+use Rattle.md_inlines.specs.Characters.{is_gap}
+use Rattle.md_inlines.specs.Target.{is_own_label, label_len, resource_at}
+use Rattle.md_inlines.specs.declared.InlineOptions.{InlineOptions}
+use Rattle.md_inlines.specs.declared.Resource.{Resource}
 use Rattle.md_inlines.specs.Atoms.{beside, byte, escape_at, merged, or_else, reference_forest, when}
 
 -- A text with escapes and character references alone, as a destination, a title or a label (2.4, 2.5).

@@ -32,7 +32,7 @@ use Rattle.md_registry.proofs.LeafRests.{Rests, tried-agree, taken-or-not}
 use Rattle.proof_leaf_laws.proofs.HeadingSetext.Trial as setext
 use Rattle.proof_leaf_laws.proofs.ThematicBreak.Trial as break
 use Rattle.proof_literal_laws.proofs.HtmlFlow.Trial as html
-use Rattle.proof_table_laws.proofs.GfmTable.Trial as table
+use Rattle.proof_leaf_laws.proofs.GfmTable.Trial as table
 use Rattle.std.proofs.Math.Bool.{and-false, or-true}
 use Rattle.md_meaning.specs.Html.{html_kind}
 use Rattle.md_meaning.specs.Leaves.{LeafResult, ParagraphContext, break_at, code_at, fence_at, heading_at, html_at}
@@ -53,7 +53,7 @@ use Rattle.md_outline.proofs.TextCuts.{trim-blank}
 use Rattle.proof_frame.specs.Context.{context_of}
 use Rattle.proof_literal_laws.specs.Leaf.CodeIndented.{code_leaf}
 use Rattle.proof_literal_laws.specs.Leaf.Fence.{fence_leaf}
-use Rattle.proof_table_laws.specs.Leaf.GfmTable.{table_leaf}
+use Rattle.proof_leaf_laws.specs.Leaf.GfmTable.{table_leaf}
 use Rattle.proof_leaf_laws.specs.Leaf.HeadingAtx.{heading_leaf}
 use Rattle.proof_leaf_laws.specs.Leaf.HeadingSetext.{setext_leaf}
 use Rattle.proof_leaf_laws.specs.Leaf.ThematicBreak.{break_leaf, is_ruled}
@@ -64,7 +64,7 @@ use Rattle.md_registry.proofs.HeadingSetext.Found.{is_underlined, some-underline
 use Rattle.proof_leaf_laws.proofs.HeadingSetext.Kinds.{setext-starts, Underlines, underline-first}
 use Rattle.md_registry.proofs.OpenSpan.{TurnsText}
 use Rattle.md_registry.proofs.UnderNames.{further-text}
-use Rattle.md_code.specs.Code.{may_open}
+use Rattle.md_literal.specs.Code.{may_open}
 use Rattle.proof_literal_laws.proofs.CodeIndented.Found.{code-found}
 use Rattle.proof_literal_laws.proofs.Fence.Found.{fence-found}
 use Rattle.proof_leaf_laws.proofs.HeadingAtx.Found.{heading-found}

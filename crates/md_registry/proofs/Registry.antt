@@ -18,7 +18,7 @@ use Rattle.md_meaning.specs.Containers.{Taken, opens, opens_footnote, opens_item
 use Rattle.md_meaning.specs.Rest.{Rest}
 use Rattle.proof_frame.specs.HeldLeaf.{has_lines}
 use Rattle.proof_literal_laws.specs.Leaf.CodeIndented.{is_code}
-use Rattle.md_code.specs.Fence.{is_open as is_fence}
+use Rattle.md_literal.specs.Fence.{is_open as is_fence}
 use Rattle.proof_frame.specs.LeafName.{CodeFurther, CodeIndented, Fence, FenceFurther, HeadingAtx, HeadingSetext}
 use Rattle.proof_frame.specs.LeafName.{GfmTable, HtmlFlow, HtmlFurther, LeafName, ThematicBreak}
 use Rattle.md_registry.specs.Resolving.{resolved}
@@ -32,9 +32,9 @@ use Rattle.proof_literal_laws.proofs.Fence.Laws.{fence-laws}
 use Rattle.proof_literal_laws.proofs.FenceFurther.Laws.{fence_further-laws}
 use Rattle.proof_container_laws.proofs.GfmFootnoteDefinition.Laws.{footnote-laws}
 use Rattle.md_registry.proofs.GfmFootnoteDefinition.Plain.{footnote-plain}
-use Rattle.proof_table_laws.proofs.GfmTable.Laws.{table-laws}
+use Rattle.proof_leaf_laws.proofs.GfmTable.Laws.{table-laws}
 use Rattle.proof_literal_laws.proofs.HtmlFlow.Laws.{html-laws, html_further-laws}
-use Rattle.md_html.specs.Html.{is_html}
+use Rattle.md_literal.specs.Html.{is_html}
 use Rattle.proof_leaf_laws.proofs.HeadingAtx.Laws.{heading-laws}
 use Rattle.proof_leaf_laws.proofs.HeadingAtx.Outside.{front-heading, heading_resolver}
 use Rattle.proof_leaf_laws.proofs.HeadingSetext.Laws.{setext-laws}
@@ -77,18 +77,18 @@ use Rattle.md_leaves.proofs.SetextTermination.{SetextFits, setext_terminates}
 use Rattle.md_leaves.proofs.SetextMeaning.{setext_means}
 use Rattle.md_events.specs.Ahead.{HasWhite}
 use Rattle.md_events.specs.Spaces.{IsRest, rest_ready}
-use Rattle.md_code.proofs.CodeTermination.{CodeFits, code_terminates}
-use Rattle.md_code.proofs.CodeMeaning.{code_means}
-use Rattle.md_code.proofs.FenceTermination.{FenceFits, fence_terminates}
-use Rattle.md_code.proofs.FenceMeaning.{fence_means}
+use Rattle.md_literal.proofs.CodeTermination.{CodeFits, code_terminates}
+use Rattle.md_literal.proofs.CodeMeaning.{code_means}
+use Rattle.md_literal.proofs.FenceTermination.{FenceFits, fence_terminates}
+use Rattle.md_literal.proofs.FenceMeaning.{fence_means}
 use Rattle.md_events.proofs.SpacesTermination.{Does, WhiteFits}
 use Rattle.proof_frame.specs.Rule.{Rule}
 use Rattle.md_registry.specs.States.{flow_behaves_by, flow_owner, flow_table_scheme}
 use Rattle.md_registry.proofs.Termination.{Anywhere, ContainerFits, IsWithin}
 use Rattle.md_tables.proofs.GfmTableTermination.{TableFits, table_terminates}
 use Rattle.md_tables.proofs.GfmTableMeaning.{table_means}
-use Rattle.md_html.proofs.HtmlTermination.{HtmlFits, html_terminates}
-use Rattle.md_html.proofs.HtmlMeaning.{html_means}
+use Rattle.md_literal.proofs.HtmlTermination.{HtmlFits, html_terminates}
+use Rattle.md_literal.proofs.HtmlMeaning.{html_means}
 
 -- Leaves.
 

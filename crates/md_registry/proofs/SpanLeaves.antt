@@ -4,7 +4,7 @@ use Rattle.std.proofs.Common.{◌≡◌, Bool, true, false, cond, ◌&&◌, ◌|
 use Rattle.std.proofs.Common.{subst}
 use Rattle.std.specs.Option.{is_some}
 use Rattle.md_engine.specs.declared.tokenizer.held_leaf.HeldLeaf.TheVariants as held_leaf
-use Rattle.md_code.specs.Fence.{is_open as is_fence}
+use Rattle.md_literal.specs.Fence.{is_open as is_fence}
 use Rattle.md_registry.specs.OpenSpan.{IsOpenSpan, IsBuiltLeaf}
 use Rattle.md_registry.specs.Registry.{asked_first, bars_containers, further_of, leaf}
 use Rattle.md_engine.specs.declared.tokenizer.held_leaf.HeldLeaf.{HeldLeaf}
@@ -21,7 +21,7 @@ use Rattle.proof_frame.specs.LineLeaf.{LineLeaf}
 use Rattle.proof_literal_laws.specs.Leaf.CodeIndented.{code_further, code_leaf, is_code}
 use Rattle.proof_literal_laws.specs.Leaf.Fence.{fence_leaf, opening_at}
 use Rattle.proof_literal_laws.specs.Leaf.FenceFurther.{fence_further}
-use Rattle.proof_table_laws.specs.Leaf.GfmTable.{may_be_table}
+use Rattle.proof_leaf_laws.specs.Leaf.GfmTable.{may_be_table}
 use Rattle.proof_frame.specs.LeafName.{CodeFurther, CodeIndented, Fence, FenceFurther, HeadingSetext, GfmTable}
 use Rattle.proof_frame.specs.LeafName.{HtmlFlow, HtmlFurther, LeafName}
 use Rattle.md_registry.specs.Resolving.{joins_lines}
@@ -32,12 +32,12 @@ use Rattle.proof_literal_laws.proofs.Fence.Found.{fence-off, fence-shallow}
 use Rattle.proof_literal_laws.proofs.Fence.Opened.{fence-starts}
 use Rattle.proof_literal_laws.proofs.FenceFurther.Definition.{opening-fence}
 use Rattle.proof_literal_laws.proofs.FenceSpan.Laws.{fence-span}
-use Rattle.proof_table_laws.proofs.GfmTable.Span.{table-begins, table-span}
+use Rattle.proof_leaf_laws.proofs.GfmTable.Span.{table-begins, table-span}
 use Rattle.proof_literal_laws.proofs.HtmlFlow.Found.{html-enabled, html-proceeds, html-held}
 use Rattle.proof_literal_laws.proofs.HtmlSpan.Laws.{html-span}
 use Rattle.md_meaning.specs.Html.{HtmlKind, html_ends}
-use Rattle.md_html.specs.Html.{ends_in_front, is_html}
-use Rattle.md_html.specs.HtmlLine as rule
+use Rattle.md_literal.specs.Html.{ends_in_front, is_html}
+use Rattle.md_literal.specs.HtmlLine as rule
 use Rattle.proof_literal_laws.specs.Leaf.HtmlFlow.{begins_as, html_further, html_leaf, kind_begun}
 use Rattle.proof_leaf_laws.proofs.HeadingSetext.Span.{setext-begins, setext-span}
 use Rattle.md_registry.proofs.OpenSpan.{Begun, BecomesShallow, OpenSpan}

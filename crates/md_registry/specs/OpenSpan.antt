@@ -2,7 +2,7 @@
 use Rattle.std.specs.Prelude.{◌≡◌, true}
 use Rattle.md_engine.specs.declared.tokenizer.held_leaf.HeldLeaf.TheVariants as held_leaf
 use Rattle.md_meaning.specs.State.{Leaf, OpenCode, OpenFence, OpenHtml, OpenTable}
-use Rattle.md_code.specs.Fence.{is_open as is_fence}
+use Rattle.md_literal.specs.Fence.{is_open as is_fence}
 use Rattle.proof_frame.specs.HeldLeaf.{IsNoneTextOr}
 
 -- The leaves of several lines that may be open, but for text: indented code, HTML, tables, and fenced code and math

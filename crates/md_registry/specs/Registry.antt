@@ -32,12 +32,12 @@ use Rattle.md_leaves.specs.HeadingSetext.{setext_scheme, setext_transition}
 use Rattle.md_leaves.specs.HeadingSetextRule.{setext_behaves}
 use Rattle.md_meaning.specs.Ascii.{asterisk, backtick, dollar, equals_sign, hash, hyphen, less_than, tilde, underscore}
 use Rattle.md_meaning.specs.State.{Container}
-use Rattle.md_code.specs.Code.{code_scheme, code_transition}
-use Rattle.md_code.specs.CodeRule.{code_behaves}
-use Rattle.md_code.specs.Fence.{fence_scheme, fence_transition, is_open as is_fence}
-use Rattle.md_code.specs.FenceRule.{fence_behaves}
-use Rattle.md_html.specs.Html.{html_scheme, html_transition, is_html}
-use Rattle.md_html.specs.HtmlRule.{html_behaves}
+use Rattle.md_literal.specs.Code.{code_scheme, code_transition}
+use Rattle.md_literal.specs.CodeRule.{code_behaves}
+use Rattle.md_literal.specs.Fence.{fence_scheme, fence_transition, is_open as is_fence}
+use Rattle.md_literal.specs.FenceRule.{fence_behaves}
+use Rattle.md_literal.specs.Html.{html_scheme, html_transition, is_html}
+use Rattle.md_literal.specs.HtmlRule.{html_behaves}
 use Rattle.md_events.specs.Transition.{Transition}
 use Rattle.md_tables.specs.GfmTable.{table_scheme, table_transition}
 use Rattle.md_tables.specs.GfmTableRule.{table_behaves}
@@ -48,7 +48,7 @@ use Rattle.proof_container_laws.specs.Containers.ListItem.{item_rules}
 use Rattle.proof_literal_laws.specs.Leaf.CodeIndented.{code_further, code_leaf, is_code}
 use Rattle.proof_literal_laws.specs.Leaf.Fence.{fence_leaf}
 use Rattle.proof_literal_laws.specs.Leaf.FenceFurther.{fence_further}
-use Rattle.proof_table_laws.specs.Leaf.GfmTable.{table_leaf}
+use Rattle.proof_leaf_laws.specs.Leaf.GfmTable.{table_leaf}
 use Rattle.proof_leaf_laws.specs.Leaf.HeadingAtx.{heading_leaf}
 use Rattle.proof_leaf_laws.specs.Leaf.HeadingSetext.{setext_leaf, setext_turn}
 use Rattle.proof_literal_laws.specs.Leaf.HtmlFlow.{html_further, html_leaf}

@@ -13,7 +13,7 @@ use Rattle.md_leaves.specs.HeadingText.{headings_resolved}
 use Rattle.md_leaves.specs.Spanned.{spanned}
 use Rattle.md_leaves.specs.Turned.{turned}
 use Rattle.md_tables.specs.Tabled.{tabled}
-use Rattle.proof_table_laws.specs.Headed.{heads_read}
+use Rattle.proof_leaf_laws.specs.Headed.{heads_read}
 
 -- Whether a leaf of several lines may be on, so that a resolver joins its lines.
 unfoldable pub joins_lines : ParseOptions → Bool

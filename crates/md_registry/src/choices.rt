@@ -18,7 +18,7 @@ ghost use Rattle.md_engine.specs.declared.state.State.{State};
 ghost use Rattle.md_engine.specs.declared.state.flow.State.{State as FlowState};
 ghost use Rattle.md_registry.specs.LineFlags.{asking};
 ghost use Rattle.md_registry.specs.Resolving.{joins_lines};
-ghost use Rattle.proof_table_laws.specs.Headed.{heads_read};
+ghost use Rattle.proof_leaf_laws.specs.Headed.{heads_read};
 ghost use Rattle.md_registry.specs.Registry.{bars_containers, is_common};
 ghost use Rattle.md_registry.specs.Registry.{construct_transition, continues_with, asked_first, leaf};
 ghost use Rattle.md_registry.specs.States.{flow_table_scheme, flow_transition};
@@ -33,7 +33,6 @@ ghost use Rattle.md_events.specs.Look.{looks_after, may_with};
 ghost use Rattle.md_events.specs.Spaces.{sees_white};
 ghost use Rattle.md_events.specs.Stays.{TakesEach};
 
-use md_code::{code_indented, raw_flow};
 use md_containers::{block_quote, gfm_footnote_definition, list_item, plain_item};
 use md_engine::class::is_white;
 use md_engine::configuration::ParseOptions;
@@ -54,8 +53,8 @@ use md_engine::state::{Name as StateName, State};
 use md_engine::stay::Stay;
 use md_engine::tokenizer::{Container, ContainerKind, HeldLeaf, Tokenizer};
 use md_events::space_or_tab::look_after_white;
-use md_html::html_flow;
 use md_leaves::{heading_atx, heading_setext, thematic_break};
+use md_literal::{code_indented, html_flow, raw_flow};
 use md_tables::{gfm_table, heads};
 
 /// The state of the document before the first container that may open.

@@ -7,8 +7,8 @@ use Rattle.md_engine.specs.declared.configuration.ParseOptions.{ParseOptions}
 use Rattle.md_engine.specs.declared.event.Event.{Event}
 use Rattle.md_engine.specs.declared.tokenizer.held_leaf.HeldLeaf.TheVariants as held_leaf
 use Rattle.md_engine.specs.declared.tokenizer.held_leaf.OpenText.{OpenText}
-use Rattle.md_html.specs.Html.{ends_in_front, is_html}
-use Rattle.md_html.specs.HtmlLine.{left_by}
+use Rattle.md_literal.specs.Html.{ends_in_front, is_html}
+use Rattle.md_literal.specs.HtmlLine.{left_by}
 use Rattle.proof_leaf_laws.proofs.HeadingSetext.Span.{setext-begins}
 use Rattle.md_link_definitions.specs.OpenText.{open_text}
 use Rattle.md_link_definitions.specs.Progress.{progress_of, step}
@@ -17,7 +17,7 @@ use Rattle.proof_literal_laws.specs.Leaf.HtmlFlow.{kind_begun}
 use Rattle.md_meaning.specs.Html.{HtmlKind, html_ends}
 use Rattle.md_meaning.specs.Rest.{indent, is_blank, trim_start}
 use Rattle.md_meaning.specs.State.{kept}
-use Rattle.proof_table_laws.proofs.GfmTable.Span.{table-begins}
+use Rattle.proof_leaf_laws.proofs.GfmTable.Span.{table-begins}
 use Rattle.md_exact.specs.Blocks.{events_by, tail}
 use Rattle.md_exact.specs.Rows.{Delimiter, Role, Row}
 use Rattle.proof_frame.specs.LeafName.{CodeFurther, CodeIndented, Fence, FenceFurther, GfmTable, HeadingSetext}

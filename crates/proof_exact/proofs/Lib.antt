@@ -31,3 +31,14 @@ pub mod Endings
 pub mod Fed
 pub mod FedRows
 pub mod LinesExact
+pub mod PartGroups
+pub mod Moved
+pub mod RowsMoved
+pub mod Appended
+pub mod LinesParts
+pub mod TextParts
+pub mod TreeParts
+pub mod WholeParts
+pub mod CutAfter
+pub mod TextCut
+pub mod PartExamples

@@ -11,8 +11,8 @@ use Rattle.md_engine.specs.declared.event.Name.TheVariants as n
 use Rattle.md_engine.specs.declared.event.Point.{Point}
 use Rattle.md_engine.specs.declared.tokenizer.held_leaf.HeldLeaf.{HeldLeaf}
 use Rattle.md_engine.specs.declared.tokenizer.held_leaf.HeldLeaf.TheVariants as held_leaf
-use Rattle.md_code.specs.Fence.{block_name, held_marker, is_open as is_fence}
-use Rattle.md_html.specs.Html.{is_html}
+use Rattle.md_literal.specs.Fence.{block_name, held_marker, is_open as is_fence}
+use Rattle.md_literal.specs.Html.{is_html}
 use Rattle.md_leaves.specs.Spanned.{renamed}
 use Rattle.md_leaves.specs.declared.spans.Place.TheVariants.{Outside}
 use Rattle.md_meaning.specs.Bytes.{is_end}

@@ -13,7 +13,7 @@ use Rattle.md_engine.specs.declared.event.Event.{Event}
 use Rattle.md_engine.specs.declared.event.Name.{Name}
 use Rattle.md_engine.specs.declared.event.Name.TheVariants as n
 use Rattle.md_engine.specs.declared.event.Point.{Point}
-use Rattle.md_code.specs.Fence.{fence_name, meta_name, sequence_name}
+use Rattle.md_literal.specs.Fence.{fence_name, meta_name, sequence_name}
 use Rattle.md_meaning.specs.Leaves.{closes, first_word}
 use Rattle.md_meaning.specs.Rest.{Rest, after_indent, has_small_indent, indent, is_blank, is_white, run_len}
 use Rattle.md_meaning.specs.Rest.{trim_start}

@@ -26,7 +26,7 @@ use Rattle.md_meaning.specs.Texts.{first_byte}
 use Rattle.md_events.specs.Events.Nested.{around, enter_link, exit, pair}
 use Rattle.md_events.specs.Events.Places.{past_text}
 use Rattle.md_events.proofs.RestLines.{count-one}
-use Rattle.md_code.specs.Fence.{block_name}
+use Rattle.md_literal.specs.Fence.{block_name}
 use Rattle.proof_frame.specs.LineColumns.{part_over, past_columns, rest_of}
 use Rattle.proof_frame.specs.MarkRuns.{Apart, mark_runs}
 use Rattle.proof_frame.specs.Row.{blank_line}

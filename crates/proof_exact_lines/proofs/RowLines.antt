@@ -21,9 +21,9 @@ use Rattle.md_tables.specs.RowCells.{Cells, Divides, Ends, Shut, line_cells, row
 use Rattle.md_tables.specs.RowCells.{white_front}
 use Rattle.md_tables.proofs.RowBytes.{front-whole}
 use Rattle.proof_frame.specs.LineColumns.{part_over}
-use Rattle.proof_table_laws.proofs.GfmTable.DelimiterRowCells.{Aligned, AreDelimiters, IsValue, aligned, values-fit}
-use Rattle.proof_table_laws.proofs.GfmTable.DelimiterRowCells.{colons, marker, value-runs, value_events}
-use Rattle.proof_table_laws.proofs.GfmTable.RowCells.{EachFits}
+use Rattle.proof_leaf_laws.proofs.GfmTable.DelimiterRowCells.{Aligned, AreDelimiters, IsValue, aligned, values-fit}
+use Rattle.proof_leaf_laws.proofs.GfmTable.DelimiterRowCells.{colons, marker, value-runs, value_events}
+use Rattle.proof_leaf_laws.proofs.GfmTable.RowCells.{EachFits}
 use Rattle.md_exact.specs.Leaves as exact
 use Rattle.md_exact.specs.Leaves.{Inner, cell_dashes, cell_text, past_optional, row_line}
 use Rattle.md_exact.specs.Places.{TextLine, past, piece, white}

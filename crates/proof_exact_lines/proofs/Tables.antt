@@ -13,11 +13,11 @@ use Rattle.md_events.proofs.InlineLemmas.{past-index}
 use Rattle.md_tables.specs.DelimiterCells.{delimiter_events}
 use Rattle.md_tables.specs.RowCells.{row_events, unread_text}
 use Rattle.proof_frame.specs.Row.{Row as FrameRow, ending_events, last_row, row_line}
-use Rattle.proof_table_laws.specs.Headed.{headed_unread}
-use Rattle.proof_table_laws.proofs.GfmTable.DelimiterRowCells.{AreDelimiters, columns-cells}
-use Rattle.proof_table_laws.proofs.GfmTable.TableForm.{AreBodyRows, IsFilledLine, IsTable, body_after, delimiter_part}
-use Rattle.proof_table_laws.proofs.GfmTable.TableForm.{gap_events, head_events, row_part, rows_after, table_events}
-use Rattle.proof_table_laws.proofs.GfmTable.TableUnread.{line-dark, table-unread}
+use Rattle.proof_leaf_laws.specs.Headed.{headed_unread}
+use Rattle.proof_leaf_laws.proofs.GfmTable.DelimiterRowCells.{AreDelimiters, columns-cells}
+use Rattle.proof_leaf_laws.proofs.GfmTable.TableForm.{AreBodyRows, IsFilledLine, IsTable, body_after, delimiter_part}
+use Rattle.proof_leaf_laws.proofs.GfmTable.TableForm.{gap_events, head_events, row_part, rows_after, table_events}
+use Rattle.proof_leaf_laws.proofs.GfmTable.TableUnread.{line-dark, table-unread}
 use Rattle.md_exact.specs.Leaves.{delimiter_row, joined, last_end, leaf, onto_next, start, table, text_row}
 use Rattle.md_exact.specs.Places.{ending, line_end, place}
 use Rattle.md_exact.proofs.OnLine.{LineIn, OnLine}

@@ -6,3 +6,11 @@ pub mod ChunkLemmas
 pub mod FramedLemmas
 pub mod ForestLemmas
 pub mod SizeLemmas
+pub mod ContentForests
+pub mod EmphasisLemmas
+pub mod ContentLemmas
+pub mod AtomLemmas
+pub mod AngleLemmas
+pub mod LiteralLemmas
+pub mod TargetLemmas
+pub mod Promise

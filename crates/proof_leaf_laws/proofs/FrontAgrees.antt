@@ -25,7 +25,7 @@ use Rattle.md_meaning.specs.Preamble.{front_marker, is_front_fence}
 use Rattle.md_meaning.proofs.TextsLemmas.{Both, Ending, EndsBefore, LineFeed, NoEnding, Return, ending_bytes}
 use Rattle.md_leaves.specs.Heading.{without_size}
 use Rattle.md_leaves.specs.CellRuns.{is_end}
-use Rattle.md_code.proofs.FenceCells.{first-spread}
+use Rattle.md_literal.proofs.FenceCells.{first-spread}
 use Rattle.md_events.specs.Events.Nested.{enter, exit, pair}
 use Rattle.md_events.specs.Events.Places.{past_text}
 use Rattle.md_events.specs.Look.{first_seen}

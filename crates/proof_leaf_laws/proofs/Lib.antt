@@ -7,3 +7,5 @@ pub mod HeadingAtx
 pub mod HeadingSetext
 pub mod MarkRuns
 pub mod ThematicBreak
+pub mod GfmTable
+pub mod HeadsRead

@@ -2,3 +2,4 @@
 pub mod HeadingAtx
 pub mod HeadingSetext
 pub mod ThematicBreak
+pub mod GfmTable

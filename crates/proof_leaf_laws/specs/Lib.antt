@@ -1,3 +1,4 @@
 pub mod Front
 pub mod DocumentRule
 pub mod Leaf
+pub mod Headed

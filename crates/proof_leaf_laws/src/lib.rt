@@ -1,2 +1,2 @@
-// The values and laws of headings, thematic breaks and frontmatter.
+// The values and laws of headings, thematic breaks, frontmatter and tables.
 #![tactic(auto)]

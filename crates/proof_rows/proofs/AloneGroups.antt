@@ -9,7 +9,7 @@ use Rattle.md_order.specs.Alone.{HoldNoBlock, Nothing}
 use Rattle.md_events.specs.Events.Nested.{pair}
 use Rattle.md_registry.specs.Resolving.{lines_joined}
 use Rattle.proof_frame.specs.Row.{Row, last_row, span_by}
-use Rattle.proof_table_laws.specs.Headed.{headed_row}
+use Rattle.proof_leaf_laws.specs.Headed.{headed_row}
 use Rattle.proof_frame.specs.TextLines.{text_leaf}
 use Rattle.proof_rows.specs.BlockList.{unread_lines}
 use Rattle.proof_rows.specs.Rows.{Group, Headed, LeafLines, Lines, Single, Turned, groups, row_events}
@@ -19,7 +19,7 @@ use Rattle.proof_frame.proofs.ClosedFacts.{closed-ending, closed-front, closed-h
 use Rattle.proof_frame.proofs.EachEvent.{each-as}
 use Rattle.proof_frame.proofs.FrontNames.{HasFront}
 use Rattle.proof_frame.proofs.LinedFacts.{IsLined, lined-opens}
-use Rattle.proof_table_laws.proofs.GfmTable.Alone.{table-alone}
+use Rattle.proof_leaf_laws.proofs.GfmTable.Alone.{table-alone}
 use Rattle.md_registry.proofs.Registry.{laws}
 use Rattle.proof_rows.proofs.GroupLemmas.{lines-prefixed}
 use Rattle.proof_rows.proofs.GroupLines.{AreGroups, AreLines, AreSpan, Begins, IsHead, IsSingle, IsUnder}

@@ -14,14 +14,14 @@ use Rattle.md_meaning.specs.Tree.{Blocks, Table}
 use Rattle.md_leaves.specs.HeadingSetext.{is_text}
 use Rattle.md_outline.specs.HeadingDepths.{are_shallow}
 use Rattle.proof_frame.specs.HeldLeaf.{has_lines, kind_of_leaf, left_by, may_continue, met_by, takes_lazy}
-use Rattle.proof_table_laws.specs.Leaf.GfmTable.{table_leaf}
+use Rattle.proof_leaf_laws.specs.Leaf.GfmTable.{table_leaf}
 use Rattle.proof_frame.specs.LeafName.{GfmTable, LeafName, first_of}
 use Rattle.proof_frame.specs.Leaf.Paragraph.{open_lines}
 use Rattle.md_registry.specs.OpenSpan.{IsBuiltLeaf, IsOpenSpan}
 use Rattle.md_registry.specs.Registry.{further_of, asked_first, leaf, bars_containers}
 use Rattle.proof_frame.specs.Row.{BlankRow, LeafRow, RowKind, TextRow}
 use Rattle.proof_rows.specs.Rows.{inside_or, is_further, kind_of, line_kind}
-use Rattle.proof_table_laws.proofs.GfmTable.Found.{table-proceeds}
+use Rattle.proof_leaf_laws.proofs.GfmTable.Found.{table-proceeds}
 use Rattle.proof_rows.proofs.KindLemmas.{kind-plain, kind-starts}
 use Rattle.md_registry.proofs.OpenSpan.{BecomesShallow, OpenSpan}
 use Rattle.md_registry.proofs.Dispatch.{IsAgainst, result_of, leaf_at, or_table, other_at, other_trials, table-last}

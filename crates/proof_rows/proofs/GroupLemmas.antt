@@ -32,7 +32,7 @@ use Rattle.proof_frame.specs.ContainerNames.{container_name}
 use Rattle.md_registry.specs.Registry.{leaf as line_leaf, trials}
 use Rattle.proof_frame.specs.Row.{BlankRow, LeafRow, Row, RowKind, TextRow, after_row, chunks_of, ending_events}
 use Rattle.proof_frame.specs.Row.{ending_of, last_row, row_line, is_blank_by}
-use Rattle.proof_table_laws.specs.Headed.{headed_row}
+use Rattle.proof_leaf_laws.specs.Headed.{headed_row}
 use Rattle.md_meaning.specs.Rest.{cut_tab, Rest as LineRest, is_blank}
 use Rattle.proof_frame.specs.Linked.{linked}
 use Rattle.proof_rows.specs.Unread.{headed_lines, joined_groups, unread_group, unread_groups}
@@ -42,7 +42,7 @@ use Rattle.proof_rows.proofs.GroupLines.{AreGroups, AreLines, AreSpan, EndsBefor
 use Rattle.proof_frame.proofs.FrontNames.{HasFront, ends-first, fronts-prefixes}
 use Rattle.proof_rows.proofs.GroupsAre.{groups-are}
 use Rattle.proof_frame.proofs.FrontPlaces.{fronts-grow}
-use Rattle.proof_table_laws.proofs.GfmTable.Head.{head-no_content}
+use Rattle.proof_leaf_laws.proofs.GfmTable.Head.{head-no_content}
 use Rattle.proof_rows.proofs.JoinedLemmas.{EachEnds, EachFront, EachNoContent, HasNoContent, following-is, ending-other}
 use Rattle.proof_rows.proofs.JoinedLemmas.{events-no_content, has_front-no_content, front-no_content, tail-no_content}
 use Rattle.proof_frame.proofs.LeafLines.Cuts.{ending-is}

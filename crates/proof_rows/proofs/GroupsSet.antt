@@ -25,7 +25,7 @@ use Rattle.proof_frame.proofs.LinedFacts.{IsLined, lined-outside, prefix-lined}
 use Rattle.proof_frame.proofs.OutsideFacts.{AreOutside, IsOutside}
 use Rattle.proof_frame.proofs.PrefixNames.{prefixes-front}
 use Rattle.proof_content_laws.proofs.Defined.Names.{outside-of}
-use Rattle.proof_table_laws.proofs.GfmTable.Each.{of-outside}
+use Rattle.proof_leaf_laws.proofs.GfmTable.Each.{of-outside}
 use Rattle.md_registry.proofs.Registry.{laws, outside-passes}
 use Rattle.proof_rows.proofs.GroupLemmas.{lines-prefixed}
 use Rattle.proof_rows.proofs.GroupLines.{AreGroups, AreLines, AreSpan, Begins, IsHead, IsSingle, IsUnder}

@@ -14,7 +14,7 @@ use Rattle.md_meaning.specs.State.{Container}
 use Rattle.md_events.specs.Events.Nested.{enter_link, exit}
 use Rattle.md_tables.specs.Heads.{headed, meets_table}
 use Rattle.md_tables.proofs.HeadsLemmas.{headed-following, headed-head, headed-text}
-use Rattle.proof_table_laws.specs.Headed.{heads_read, headed_row}
+use Rattle.proof_leaf_laws.specs.Headed.{heads_read, headed_row}
 use Rattle.proof_frame.specs.Row.{BlankRow, LeafRow, Row, RowKind, TextRow}
 use Rattle.proof_rows.specs.Rows.{groups, is_further}
 use Rattle.proof_rows.specs.Rows.{is_text, row_events, row_events_by, rows_events, tail_events, takes_head}
@@ -25,7 +25,7 @@ use Rattle.proof_rows.proofs.GroupLemmas.{rows-end, rows-front}
 use Rattle.proof_rows.proofs.HeadLine.{head-bytes}
 use Rattle.proof_rows.proofs.HeadMet.{head-met, row-parts, tail-met, text-met}
 use Rattle.proof_rows.proofs.HeadRows.{again-joined, again-none, as_table, head_rows, read_again}
-use Rattle.proof_table_laws.proofs.HeadsRead.{no-chunk}
+use Rattle.proof_leaf_laws.proofs.HeadsRead.{no-chunk}
 use Rattle.proof_rows.proofs.JoinedLemmas.{EachNoContent, HasNoContent, events-no_content, has_front-no_content}
 use Rattle.proof_rows.proofs.JoinedLemmas.{tail-no_content}
 use Rattle.proof_rows.proofs.RowFacts.{AreRows, IsRow, following_line}

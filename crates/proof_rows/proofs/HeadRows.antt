@@ -13,10 +13,10 @@ use Rattle.proof_frame.specs.Row.{BlankRow, LeafRow, Row, RowKind, TextRow, row_
 use Rattle.proof_rows.specs.Rows.{Group, Headed, Lines, Single, LeafLines, Turned, is_continued, groups, is_further}
 use Rattle.proof_rows.specs.Rows.{is_last, is_text, onto_groups, onto_leaf, onto_span, onto_underline, takes_head}
 use Rattle.proof_rows.specs.Rows.{rows_events}
-use Rattle.proof_table_laws.specs.Headed.{headed_row}
+use Rattle.proof_leaf_laws.specs.Headed.{headed_row}
 use Rattle.proof_rows.specs.Unread.{joined_group, joined_groups}
 use Rattle.proof_frame.proofs.FrontNames.{HasFront}
-use Rattle.proof_table_laws.proofs.GfmTable.Head.{head-no_content}
+use Rattle.proof_leaf_laws.proofs.GfmTable.Head.{head-no_content}
 use Rattle.proof_rows.proofs.JoinedLemmas.{EachEnds, EachFront, EachNoContent, HasNoContent, joined-rows}
 use Rattle.proof_rows.proofs.TextGroups.{HeadsNone, NoHead, NoHeads, onto-unheaded}
 use Rattle.md_registry.proofs.UnderNames.{heads-table}

@@ -13,16 +13,16 @@ use Rattle.md_meaning.specs.Table.{row_cells}
 use Rattle.md_meaning.specs.Tree.{Block}
 use Rattle.md_link_definitions.specs.OpenText.{open_text}
 use Rattle.md_link_definitions.specs.Progress.{progress_of, step}
-use Rattle.proof_table_laws.specs.Leaf.GfmTable.{may_be_table, table_leaf}
+use Rattle.proof_leaf_laws.specs.Leaf.GfmTable.{may_be_table, table_leaf}
 use Rattle.proof_frame.specs.LeafName.{GfmTable, LeafName}
 use Rattle.md_registry.specs.Resolving.{joins_lines}
 use Rattle.md_registry.specs.Registry.{further_of, asked_first, leaf}
 use Rattle.proof_frame.specs.Row.{LeafRow, Row, RowKind, is_blank_by, last_row}
-use Rattle.proof_table_laws.specs.Headed.{headed_done, headed_unread}
+use Rattle.proof_leaf_laws.specs.Headed.{headed_done, headed_unread}
 use Rattle.proof_rows.specs.Rows.{Headed, is_blank_group, line_following}
-use Rattle.proof_table_laws.proofs.GfmTable.Found.{table-enabled}
-use Rattle.proof_table_laws.proofs.GfmTable.TableForm.{IsFilledLine, IsTable}
-use Rattle.proof_table_laws.proofs.GfmTable.TableLaws.{AreFilled, table-facts, table-of, table_after}
+use Rattle.proof_leaf_laws.proofs.GfmTable.Found.{table-enabled}
+use Rattle.proof_leaf_laws.proofs.GfmTable.TableForm.{IsFilledLine, IsTable}
+use Rattle.proof_leaf_laws.proofs.GfmTable.TableLaws.{AreFilled, table-facts, table-of, table_after}
 use Rattle.proof_rows.proofs.GroupLines.{AreSpan, IsHead, IsSpanLine, line-as, line-further, span-begins}
 use Rattle.proof_rows.proofs.GroupLines.{span-following}
 use Rattle.proof_rows.proofs.LineAfter.{line-heads}

@@ -13,19 +13,19 @@ use Rattle.proof_frame.specs.RestLine.{rest_line}
 use Rattle.proof_frame.specs.HeldLeaf.{has_lines, may_continue, takes_lazy}
 use Rattle.proof_frame.specs.LeafName as registry
 use Rattle.proof_frame.specs.LeafName.{LeafName}
-use Rattle.proof_table_laws.specs.Leaf.GfmTable.{table_leaf}
+use Rattle.proof_leaf_laws.specs.Leaf.GfmTable.{table_leaf}
 use Rattle.md_registry.specs.Registry.{further_of, leaf}
 use Rattle.proof_frame.specs.Row.{Row, row_line, span_by}
-use Rattle.proof_table_laws.specs.Headed.{headed_row}
+use Rattle.proof_leaf_laws.specs.Headed.{headed_row}
 use Rattle.proof_frame.proofs.EachEvent.{Each, each-as}
 use Rattle.proof_frame.proofs.FrontNames.{fronts-prefixes}
 use Rattle.proof_frame.proofs.LinedFacts.{AreLined, IsLined, prefixes-lined}
 use Rattle.proof_frame.proofs.PrefixNames.{IsNamed}
 use Rattle.proof_frame.proofs.LeafLines.Each.{AreEach, OfGaps, span-each}
 use Rattle.proof_frame.proofs.SpanLaws.{AreAfter, IsLineOf}
-use Rattle.proof_table_laws.proofs.GfmTable.Each.{OfTable, table-added_each}
-use Rattle.proof_table_laws.proofs.GfmTable.Head.{head-each}
-use Rattle.proof_table_laws.proofs.GfmTable.Span.{table-begins}
+use Rattle.proof_leaf_laws.proofs.GfmTable.Each.{OfTable, table-added_each}
+use Rattle.proof_leaf_laws.proofs.GfmTable.Head.{head-each}
+use Rattle.proof_leaf_laws.proofs.GfmTable.Span.{table-begins}
 use Rattle.md_registry.proofs.Registry.{laws}
 use Rattle.md_registry.proofs.UnderNames.{heads-table}
 use Rattle.proof_rows.proofs.GroupLines.{AreSpan, Begins, IsSpanLine, following-first, line-further, line-of}

@@ -23,8 +23,8 @@ use Rattle.proof_frame.specs.LeafName.{GfmTable, LeafName}
 use Rattle.proof_frame.specs.Row.{BlankRow, LeafRow, RowKind, TextRow}
 use Rattle.proof_frame.specs.TextLines.{text_leaf}
 use Rattle.proof_leaf_laws.specs.Leaf.HeadingSetext.{depth_of, setext_leaf}
-use Rattle.proof_table_laws.specs.Leaf.GfmTable.{table_leaf}
-use Rattle.proof_table_laws.proofs.GfmTable.Found.{table-found}
+use Rattle.proof_leaf_laws.specs.Leaf.GfmTable.{table_leaf}
+use Rattle.proof_leaf_laws.proofs.GfmTable.Found.{table-found}
 use Rattle.md_registry.specs.OpenSpan.{IsBuiltLeaf, IsOpenSpan}
 use Rattle.md_registry.specs.Registry.{leaf}
 use Rattle.md_registry.proofs.HeadingSetext.Found.{setext-found}

@@ -38,7 +38,7 @@ use Rattle.proof_leaf_laws.specs.Leaf.HeadingSetext.{underline_line}
 use Rattle.md_link_definitions.specs.DefinitionRule.{DefinitionParts}
 use Rattle.proof_content_laws.specs.Defined.{defined_unread}
 use Rattle.proof_content_laws.proofs.Defined.Is.{IsDefined}
-use Rattle.proof_table_laws.specs.Headed.{headed_row}
+use Rattle.proof_leaf_laws.specs.Headed.{headed_row}
 use Rattle.md_registry.specs.Resolving.{lines_joined}
 use Rattle.proof_rows.specs.BlockList.{lines_unread, text_unread, turned_unread, unread_lines}
 use Rattle.proof_rows.specs.Rows.{Group, Headed, LeafLines, Lines, Single, Turned, final_row, first_row, group_ending}
@@ -58,7 +58,7 @@ use Rattle.proof_frame.proofs.PrefixNames.{ArePrefixes}
 use Rattle.proof_frame.proofs.SpannedFacts.{AreUnspanned}
 use Rattle.proof_frame.proofs.UnturnedFacts.{AreUnturned, IsUnturned}
 use Rattle.proof_leaf_laws.proofs.HeadingSetext.Line.{underline-items, underline-unset, underline_parts}
-use Rattle.proof_table_laws.proofs.GfmTable.Nests.{table-items, table-rows}
+use Rattle.proof_leaf_laws.proofs.GfmTable.Nests.{table-items, table-rows}
 use Rattle.md_registry.proofs.Registry.{laws, outside-passes}
 use Rattle.proof_rows.proofs.AloneGroups.{closed-rows, groups-closed}
 use Rattle.proof_rows.proofs.ContentCut.{last-split}

@@ -8,7 +8,7 @@ use Rattle.md_meaning.specs.Leaves.{ParagraphContext, is_text, starts}
 use Rattle.md_meaning.specs.Rest.{Rest, has_small_indent, is_blank, trim_start}
 use Rattle.md_leaves.specs.HeadingSetext.{turns_nothing}
 use Rattle.md_leaves.specs.HeadingSetextRule.{is_underline}
-use Rattle.proof_table_laws.specs.Leaf.GfmTable.{may_be_table}
+use Rattle.proof_leaf_laws.specs.Leaf.GfmTable.{may_be_table}
 use Rattle.proof_leaf_laws.specs.Leaf.HeadingSetext.{setext_leaf}
 use Rattle.proof_frame.specs.LeafName.{LeafName}
 use Rattle.md_registry.proofs.Dispatch.{IsAgainst, result_of, leaf_at, or_table, other_at, others-found, table-last}

@@ -21,7 +21,7 @@ use Rattle.proof_frame.specs.Row.{last_row}
 use Rattle.proof_frame.specs.Row.{span_by}
 use Rattle.proof_frame.specs.UnreadText.{linked_lines}
 use Rattle.md_registry.specs.Registry.{leaf}
-use Rattle.proof_table_laws.specs.Headed.{headed_row}
+use Rattle.proof_leaf_laws.specs.Headed.{headed_row}
 use Rattle.proof_rows.specs.BlockList.{lines_unread, tabled_row_by, text_unread}
 use Rattle.proof_rows.specs.Rows.{Headed, LeafLines, Lines, Turned, leaf_events, leaf_unread, row_events, tail_events}
 use Rattle.proof_rows.specs.Rows.{text_done}
@@ -32,7 +32,7 @@ use Rattle.proof_frame.proofs.LeafLines.Each.{OfGaps}
 use Rattle.proof_frame.proofs.LinedFacts.{AreLined, lined-gaps}
 use Rattle.proof_frame.proofs.PrefixNames.{AreFront, ArePrefixes, IsNamed, prefixes-front}
 use Rattle.proof_frame.proofs.SubstitutedLemmas.{EachPrefixed}
-use Rattle.proof_table_laws.proofs.GfmTable.Each.{OfTable}
+use Rattle.proof_leaf_laws.proofs.GfmTable.Each.{OfTable}
 use Rattle.proof_rows.proofs.GroupLemmas.{under-prefixed}
 use Rattle.proof_rows.proofs.GroupLines.{AreLines, AreSpan, Begins, IsHead, IsSingle, IsUnder, span-begins}
 use Rattle.proof_rows.proofs.HeadedTable.{headed-is}

@@ -12,14 +12,14 @@ use Rattle.md_registry.specs.Resolving.{lines_joined, joins_lines}
 use Rattle.proof_frame.specs.EndingName.{ending_name}
 use Rattle.proof_frame.specs.LeafName.{GfmTable}
 use Rattle.proof_frame.specs.Row.{Row, RowKind, TextRow, ending_of, last_row, row_line, span_by}
-use Rattle.proof_table_laws.specs.Headed.{headed_row}
+use Rattle.proof_leaf_laws.specs.Headed.{headed_row}
 use Rattle.proof_rows.specs.Rows.{Group, Headed, LeafLines, Lines, Single, Turned, groups, rows_events, tail_events}
 use Rattle.proof_rows.specs.BlockList.{tabled_group}
 use Rattle.proof_rows.specs.Unread.{headed_lines, spanned_group, spanned_groups, unread_group, unread_groups}
 use Rattle.proof_frame.proofs.FrontNames.{HasFront}
 use Rattle.proof_frame.proofs.SpanLaws.{IsSpanned}
 use Rattle.proof_frame.proofs.SpannedFacts.{AreUnspanned, unspanned-lines}
-use Rattle.proof_table_laws.proofs.GfmTable.Head.{head-spanned}
+use Rattle.proof_leaf_laws.proofs.GfmTable.Head.{head-spanned}
 use Rattle.md_registry.proofs.SpanLeaves.{lines-join, span-laws}
 use Rattle.proof_rows.proofs.GroupLines.{AreGroups, AreSpan, Begins, IsHead, IsSpanLine, span-begins}
 use Rattle.proof_rows.proofs.GroupsAre.{groups-are}

@@ -6,11 +6,11 @@ use Rattle.md_engine.specs.declared.tokenizer.held_leaf.HeldLeaf.{HeldLeaf}
 use Rattle.md_engine.specs.declared.tokenizer.held_leaf.HeldLeaf.TheVariants as held_leaf
 use Rattle.md_engine.specs.declared.tokenizer.held_leaf.OpenText.{OpenText}
 use Rattle.md_meaning.specs.Rest.{Rest}
-use Rattle.proof_table_laws.specs.Leaf.GfmTable.{may_be_table, table_leaf}
+use Rattle.proof_leaf_laws.specs.Leaf.GfmTable.{may_be_table, table_leaf}
 use Rattle.proof_frame.specs.LeafName.{LeafName}
 use Rattle.md_registry.specs.Registry.{asked_first, leaf}
 use Rattle.proof_frame.specs.Row.{LeafRow, Row}
-use Rattle.proof_table_laws.proofs.GfmTable.Found.{table-enabled}
+use Rattle.proof_leaf_laws.proofs.GfmTable.Found.{table-enabled}
 use Rattle.proof_rows.proofs.KindLemmas.{kind-starts}
 use Rattle.proof_rows.proofs.RowFacts.{IsRow}
 use Rattle.md_registry.proofs.UnderNames.{heads-table}

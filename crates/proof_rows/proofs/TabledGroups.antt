@@ -13,13 +13,13 @@ use Rattle.md_tables.proofs.TabledLines.{AreFree, AreUntabled, free-untabled, ta
 use Rattle.proof_frame.specs.EndingName.{ending_name}
 use Rattle.md_registry.specs.Resolving.{lines_joined, resolved}
 use Rattle.proof_frame.specs.Row.{Row, ending_of, last_row, span_by}
-use Rattle.proof_table_laws.specs.Headed.{headed_row, headed_unread}
+use Rattle.proof_leaf_laws.specs.Headed.{headed_row, headed_unread}
 use Rattle.proof_rows.specs.BlockList.{tabled_group, tabled_groups}
 use Rattle.proof_rows.specs.Rows.{Group, Headed, LeafLines, Lines, Single, Turned, groups, tail_events}
 use Rattle.proof_rows.specs.Unread.{spanned_group, turned_groups, unread_groups}
 use Rattle.proof_frame.proofs.FrontNames.{HasFront}
 use Rattle.proof_frame.proofs.LinedFacts.{AreLined, lined-gaps}
-use Rattle.proof_table_laws.proofs.GfmTable.TableUnread.{lined-free, table-apart}
+use Rattle.proof_leaf_laws.proofs.GfmTable.TableUnread.{lined-free, table-apart}
 use Rattle.proof_frame.proofs.SpannedFacts.{AreUnspanned}
 use Rattle.proof_container_laws.proofs.GroupedBlocks.{no-table}
 use Rattle.proof_rows.proofs.GroupLines.{AreGroups, AreSpan, Begins, IsHead, span-begins}

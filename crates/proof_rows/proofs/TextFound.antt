@@ -29,14 +29,14 @@ use Rattle.md_link_definitions.proofs.ProgressLemmas.{progress-cut}
 use Rattle.md_events.specs.Events.Spelled.{without_last}
 use Rattle.md_tables.specs.GfmTable.{may_head}
 use Rattle.md_tables.specs.GfmTableLine.{are_columns}
-use Rattle.proof_table_laws.specs.Leaf.GfmTable.{table_leaf}
+use Rattle.proof_leaf_laws.specs.Leaf.GfmTable.{table_leaf}
 use Rattle.proof_leaf_laws.specs.Leaf.HeadingSetext.{depth_of, setext_leaf}
 use Rattle.proof_frame.specs.Leaf.Paragraph.{open_lines}
 use Rattle.proof_content_laws.specs.Defined.{then_front}
 use Rattle.proof_frame.specs.LeafName.{GfmTable, HeadingSetext, LeafName}
 use Rattle.proof_frame.specs.TextLines.{text_leaf}
 use Rattle.md_registry.specs.Registry.{leaf}
-use Rattle.proof_table_laws.proofs.GfmTable.Found.{KnowsHead, table-found}
+use Rattle.proof_leaf_laws.proofs.GfmTable.Found.{KnowsHead, table-found}
 use Rattle.md_registry.proofs.HeadingSetext.Found.{none-underlined, setext-found}
 use Rattle.proof_rows.proofs.KindLemmas.{first-passes}
 use Rattle.proof_frame.proofs.LastKept.{last-is}

@@ -21,7 +21,7 @@ use Rattle.md_events.specs.Events.Places.{at_or_before, past_text}
 use Rattle.md_events.proofs.NestedLemmas.{balanced-append, last_point-append}
 use Rattle.proof_frame.specs.Change.{ends_of, is_none}
 use Rattle.proof_frame.specs.Row.{BlankRow, LeafRow, Row, RowKind, TextRow, ending_events, last_row, row_line}
-use Rattle.proof_table_laws.specs.Headed.{headed_row, heads_read}
+use Rattle.proof_leaf_laws.specs.Headed.{headed_row, heads_read}
 use Rattle.md_registry.specs.Registry.{leaf}
 use Rattle.proof_rows.specs.BlockList.{text_unread}
 use Rattle.proof_rows.specs.Rows.{Group, Headed, LeafLines, Lines, Single, Turned, groups, is_continued, is_further}
@@ -33,8 +33,8 @@ use Rattle.proof_frame.proofs.FrontNames.{fronts-prefixes}
 use Rattle.proof_frame.proofs.PrefixNames.{ArePrefixes}
 use Rattle.proof_frame.proofs.LeafLines.Cuts.{ending-is}
 use Rattle.proof_frame.proofs.SpanLemmas.{Nested_in}
-use Rattle.proof_table_laws.proofs.GfmTable.Nests.{head-nests}
-use Rattle.proof_table_laws.proofs.GfmTable.TableUnread.{line-end}
+use Rattle.proof_leaf_laws.proofs.GfmTable.Nests.{head-nests}
+use Rattle.proof_leaf_laws.proofs.GfmTable.TableUnread.{line-end}
 use Rattle.proof_rows.proofs.ContainedLemmas.{none-nil}
 use Rattle.proof_rows.proofs.EachRow.{AsSingle, AsSpan, AsText, OfSpan, OfTable, OfText, OfTurned, Onto, OverLine, onto}
 use Rattle.proof_rows.proofs.GroupFacts.{more-groups, text-leaf}

@@ -42,7 +42,7 @@ use Rattle.proof_frame.proofs.UnturnedFacts.{AreUnturned, IsUnturned, fronts-unt
 use Rattle.proof_leaf_laws.proofs.HeadingSetext.Line.{underline-unturned, underline_parts}
 use Rattle.proof_content_laws.proofs.Defined.Form.{Form, form_unread, inside_by, strand_unread, string_unread}
 use Rattle.proof_content_laws.proofs.Defined.Is.{IsDefined}
-use Rattle.proof_table_laws.proofs.GfmTable.Each.{of-unturned}
+use Rattle.proof_leaf_laws.proofs.GfmTable.Each.{of-unturned}
 use Rattle.md_registry.proofs.Registry.{laws}
 use Rattle.proof_rows.proofs.GroupLemmas.{lines-prefixed, under-prefixed}
 use Rattle.proof_rows.proofs.GroupLines.{AreGroups, AreLines, AreSpan, Begins, EndsBeforeGroups, IsHead, IsLeft}

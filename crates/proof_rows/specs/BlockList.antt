@@ -16,7 +16,7 @@ use Rattle.md_events.specs.Events.Nested.{around}
 use Rattle.proof_leaf_laws.specs.Front.{body_point, front_events}
 use Rattle.proof_frame.specs.TextLines.{text_leaf}
 use Rattle.proof_frame.specs.Row.{Row, RowKind, turned_by, span_by, ending_of, last_row}
-use Rattle.proof_table_laws.specs.Headed.{headed_unread}
+use Rattle.proof_leaf_laws.specs.Headed.{headed_unread}
 use Rattle.proof_content_laws.specs.Defined.{defined_unread}
 use Rattle.md_registry.specs.Registry.{turn_leaf}
 use Rattle.proof_rows.specs.Rows.{Group, Headed, Lines, LeafLines, Turned, final_row, first_row, Single, cut_at_most}

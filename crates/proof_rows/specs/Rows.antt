@@ -35,7 +35,7 @@ use Rattle.proof_frame.specs.Change.{others_of}
 use Rattle.proof_frame.specs.Row.{BlankRow, LeafRow, Row, RowKind, TextRow, chunks_of, ending_events, ending_of}
 use Rattle.proof_frame.specs.Row.{is_blank_by, last_row, read_lines, row_line, span_done, turned_by}
 use Rattle.proof_content_laws.specs.Defined.{defined_unread}
-use Rattle.proof_table_laws.specs.Headed.{headed_done}
+use Rattle.proof_leaf_laws.specs.Headed.{headed_done}
 
 -- a leaf, if one takes the line, and else text
 abbrev pub kind_of : Option LeafName → RowKind

@@ -7,7 +7,7 @@ use Rattle.md_content.specs.Chunks.{content_link}
 use Rattle.proof_frame.specs.UnreadText.{linked_lines}
 use Rattle.proof_rows.specs.BlockList.{text_unread, tabled_group}
 use Rattle.proof_frame.specs.Row.{Row, last_row, span_by}
-use Rattle.proof_table_laws.specs.Headed.{headed_row}
+use Rattle.proof_leaf_laws.specs.Headed.{headed_row}
 use Rattle.proof_rows.specs.Rows.{Group, Headed, Lines, Single, LeafLines, Turned, row_events, rows_events, tail_events}
 
 -- A line of text that was read again as a head, and the lines that continue it.

@@ -4,7 +4,7 @@
 ghost use Rattle.std.specs.Prelude.{ℕ, Bool, List};
 ghost use Rattle.md_meaning.specs.Label.{Labels};
 ghost use Rattle.md_inline_events.specs.Forest.{IsForestOf};
-ghost use Rattle.md_inline_grammars.specs.declared.InlineOptions as given;
+ghost use Rattle.md_inlines.specs.declared.InlineOptions as given;
 ghost use Rattle.md_inlines.specs.Content as inlines;
 
 /// The inline content of a text is a forest over all of its bytes, with inline names, for all options and labels.

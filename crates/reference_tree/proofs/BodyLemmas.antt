@@ -10,12 +10,12 @@ use Rattle.md_meaning.specs.State.{At, closed}
 use Rattle.md_meaning.specs.Step.{spot_of, steps}
 use Rattle.md_meaning.specs.Grouped.{grouped}
 use Rattle.md_meaning.specs.Meaning.{with_frontmatter, tree}
-use Rattle.reference_grammars.specs.declared.preamble.Front.{Front}
-use Rattle.reference_grammars.specs.declared.rest.Rest.{Rest}
-use Rattle.reference_grammars.specs.Fronts.{lines_in, front_meaning, IsEnd}
-use Rattle.reference_grammars.specs.Rests.{rest_meanings}
-use Rattle.reference_grammars.specs.Trees.{meaning}
-use Rattle.reference_grammars.proofs.FrontLemmas.{rests_after, lines_in-rests}
+use Rattle.reference_tree.specs.declared.preamble.Front.{Front}
+use Rattle.reference_tree.specs.declared.rest.Rest.{Rest}
+use Rattle.reference_tree.specs.Fronts.{lines_in, front_meaning, IsEnd}
+use Rattle.reference_tree.specs.Rests.{rest_meanings}
+use Rattle.reference_tree.specs.Trees.{meaning}
+use Rattle.reference_tree.proofs.FrontLemmas.{rests_after, lines_in-rests}
 
 -- the lines of a body, read and closed
 abbrev pub body : ParseOptions → List r.Rest → t.Blocks

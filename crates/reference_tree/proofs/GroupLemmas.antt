@@ -5,14 +5,14 @@ use Rattle.std.proofs.lemmas.Bool.Decides.{nat_tests}
 use Rattle.std.proofs.lemmas.Bool.{eqb-true}
 use Rattle.md_meaning.specs.Tree as t
 use Rattle.md_meaning.specs.Grouped.{with_item, with_front}
-use Rattle.reference_grammars.specs.declared.tree.Block.{Block}
-use Rattle.reference_grammars.specs.declared.tree.Block.TheVariants as b
-use Rattle.reference_grammars.specs.declared.tree.Block.TheOpen as layer
-use Rattle.reference_grammars.specs.declared.tree.Block.TheOpen.{Block-F}
-use Rattle.reference_grammars.specs.declared.tree.Block.TheViews.{out-Block, roll-Block, roll-out-Block}
-use Rattle.reference_grammars.specs.Trees.{meaning, meanings, block_step}
+use Rattle.reference_tree.specs.declared.tree.Block.{Block}
+use Rattle.reference_tree.specs.declared.tree.Block.TheVariants as b
+use Rattle.reference_tree.specs.declared.tree.Block.TheOpen as layer
+use Rattle.reference_tree.specs.declared.tree.Block.TheOpen.{Block-F}
+use Rattle.reference_tree.specs.declared.tree.Block.TheViews.{out-Block, roll-Block, roll-out-Block}
+use Rattle.reference_tree.specs.Trees.{meaning, meanings, block_step}
 use Rattle.reference_tree.specs.Groups.{then_blocks, with_items}
-use Rattle.reference_grammars.specs.declared.tree.Block.TheFolds.{fold-roll-Block}
+use Rattle.reference_tree.specs.declared.tree.Block.TheFolds.{fold-roll-Block}
 
 eqb-same : (n : ℕ) → (n == n) ≡ true
 eqb-same n = grind (arith, nat_tests)

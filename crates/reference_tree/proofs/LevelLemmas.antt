@@ -5,8 +5,8 @@ use Rattle.std.proofs.lemmas.List.{reverse-append}
 use Rattle.md_meaning.specs.Tree as t
 use Rattle.md_meaning.specs.State.{Container, InQuote, InItem, InFootnote, container_block}
 use Rattle.md_meaning.specs.Grouped.{grouped, grouped_block, with_front}
-use Rattle.reference_grammars.specs.declared.tree.Block.{Block}
-use Rattle.reference_grammars.specs.Trees.{meaning, meanings}
+use Rattle.reference_tree.specs.declared.tree.Block.{Block}
+use Rattle.reference_tree.specs.Trees.{meaning, meanings}
 use Rattle.reference_tree.specs.declared.grouped.Groups.{Groups}
 use Rattle.reference_tree.specs.declared.grouped.Level.{Level}
 use Rattle.reference_tree.specs.States.{container_meaning}

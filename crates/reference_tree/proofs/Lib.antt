@@ -8,3 +8,13 @@ pub mod OutlineLemmas
 pub mod LineLemmas
 pub mod PlacedLemmas
 pub mod LevelLemmas
+pub mod AlertLemmas
+pub mod DefinitionLemmas
+pub mod PieceLemmas
+pub mod RestLemmas
+pub mod LinesLemmas
+pub mod MapLemmas
+pub mod TreeLemmas
+pub mod LabelLemmas
+pub mod FrontLemmas
+pub mod MeaningLemmas

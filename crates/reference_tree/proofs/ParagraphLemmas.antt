@@ -7,9 +7,9 @@ use Rattle.md_meaning.specs.Definition as d
 use Rattle.md_meaning.specs.Tree as t
 use Rattle.md_meaning.specs.State as s
 use Rattle.md_meaning.specs.State.{texts, then_block, then_definitions}
-use Rattle.reference_grammars.specs.declared.definition.Defined.{Defined}
-use Rattle.reference_grammars.specs.Definitions.{defined_meaning}
-use Rattle.reference_grammars.specs.Trees.{slices}
+use Rattle.reference_tree.specs.declared.definition.Defined.{Defined}
+use Rattle.reference_tree.specs.Definitions.{defined_meaning}
+use Rattle.reference_tree.specs.Trees.{slices}
 use Rattle.reference_tree.specs.declared.state.ParagraphLine.{ParagraphLine}
 use Rattle.reference_tree.specs.States.{kept_meaning, kept_meanings}
 use Rattle.reference_tree.specs.Paragraphs.{definitions_of}

@@ -7,8 +7,8 @@ use Rattle.md_meaning.specs.declared.outline.Word.TheVariants as word
 use Rattle.md_meaning.specs.Tree as t
 use Rattle.reference_tree.specs.Labels.{own_labels, labels_at}
 use Rattle.reference_tree.specs.Outlined.{own_entries, own_lines}
-use Rattle.reference_grammars.specs.Trees.{meaning, meanings}
-use Rattle.reference_grammars.specs.declared.tree.Block.{Block}
+use Rattle.reference_tree.specs.Trees.{meaning, meanings}
+use Rattle.reference_tree.specs.declared.tree.Block.{Block}
 use Rattle.reference_tree.specs.declared.order.Level.{Level}
 use Rattle.reference_tree.specs.declared.order.Place as program
 use Rattle.reference_tree.specs.Placed.{Place, place, blocks_in, placed_block, placed, place_of, places, left}

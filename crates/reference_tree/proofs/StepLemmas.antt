@@ -13,8 +13,8 @@ use Rattle.md_meaning.specs.Leaves.{LazyText, starts}
 use Rattle.md_meaning.specs.Step.{all_continued, fresh_line, entered, with_lazy, lazy_by, stopped_by, stopped, step}
 use Rattle.md_meaning.specs.Step.{steps}
 use Rattle.reference_tree.specs.Held.{blocks_meaning}
-use Rattle.reference_grammars.specs.declared.rest.Rest.{Rest}
-use Rattle.reference_grammars.specs.Rests.{rest_meaning, rest_meanings}
+use Rattle.reference_tree.specs.declared.rest.Rest.{Rest}
+use Rattle.reference_tree.specs.Rests.{rest_meaning, rest_meanings}
 use Rattle.reference_tree.specs.declared.state.Container.{Container}
 use Rattle.reference_tree.specs.declared.state.Frame.{Frame}
 use Rattle.reference_tree.specs.States.{container_meaning, within}

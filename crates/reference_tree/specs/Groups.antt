@@ -3,7 +3,7 @@ use Rattle.std.specs.Prelude.{◌≡◌, ℕ, List, [], ◌∷◌, reverse}
 use Rattle.md_meaning.specs.Tree.{Block, Blocks, End, More}
 use Rattle.md_meaning.specs.Grouped as g
 use Rattle.md_meaning.specs.State.{container_block}
-use Rattle.reference_grammars.specs.Trees.{meaning, meanings}
+use Rattle.reference_tree.specs.Trees.{meaning, meanings}
 use Rattle.reference_tree.specs.declared.blocks.Blocks as program
 use Rattle.reference_tree.specs.declared.grouped.Grouping.{Grouping}
 use Rattle.reference_tree.specs.declared.grouped.Groups.{Groups}

@@ -8,3 +8,9 @@ pub mod Stops
 pub mod Outlined
 pub mod Placed
 pub mod Labels
+pub mod Alerts
+pub mod Trees
+pub mod Rests
+pub mod Pieces
+pub mod Definitions
+pub mod Fronts

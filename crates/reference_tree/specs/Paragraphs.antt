@@ -7,8 +7,8 @@ use Rattle.md_meaning.specs.Table.{delimiter_columns, row_cells}
 use Rattle.md_meaning.specs.Definition as d
 use Rattle.md_meaning.specs.State.{ParagraphLine, OpenTable, Innermost, shut_paragraph, texts}
 use Rattle.md_meaning.specs.Leaves.{is_head_of}
-use Rattle.reference_grammars.specs.declared.definition.Defined.{Defined}
-use Rattle.reference_grammars.specs.Definitions.{defined_meaning}
+use Rattle.reference_tree.specs.declared.definition.Defined.{Defined}
+use Rattle.reference_tree.specs.Definitions.{defined_meaning}
 
 abbrev pub block_of : d.Defined → Block
 block_of x = Definition x.label x.destination x.title

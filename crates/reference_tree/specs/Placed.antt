@@ -1,7 +1,7 @@
 -- The blocks of a tree in the order in which they begin, each with its depth.
 use Rattle.std.specs.Prelude.{ℕ, ◌+◌, List, [], ◌∷◌, ◌++◌, map}
 use Rattle.md_meaning.specs.Tree.{Block, Quote, ListOf, Item, Footnote, Blocks, End, More}
-use Rattle.reference_grammars.specs.Trees.{meaning, meanings}
+use Rattle.reference_tree.specs.Trees.{meaning, meanings}
 use Rattle.reference_tree.specs.declared.order.Level.{Level}
 use Rattle.reference_tree.specs.declared.order.Place as program
 

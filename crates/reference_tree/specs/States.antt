@@ -20,8 +20,8 @@ use Rattle.reference_tree.specs.declared.leaves.Transition.TheVariants as procee
 use Rattle.reference_tree.specs.declared.state.ParagraphContext.{ParagraphContext}
 use Rattle.reference_tree.specs.declared.state.ParagraphContext.TheVariants as against
 use Rattle.reference_tree.specs.declared.state.Taken.{Taken}
-use Rattle.reference_grammars.specs.Rests.{rest_meaning}
-use Rattle.reference_grammars.specs.Trees.{meaning, line_meanings}
+use Rattle.reference_tree.specs.Rests.{rest_meaning}
+use Rattle.reference_tree.specs.Trees.{meaning, line_meanings}
 use Rattle.reference_tree.specs.Held.{blocks_meaning}
 
 abbrev pub container_meaning : Container → s.Container

@@ -2,11 +2,11 @@
 
 ghost use Rattle.std.specs.Prelude.{◌≡◌, [], ◌∷◌, ◌++◌, OnOk};
 ghost use Rattle.md_meaning.specs.State.{then_block, then_paragraph};
-ghost use Rattle.reference_grammars.specs.Trees.{meaning, slices};
+ghost use Rattle.reference_tree.specs.Trees.{meaning, slices};
 ghost use Rattle.reference_tree.specs.Held.{blocks_meaning};
 
+use crate::tree::Block;
 use md_engine::message::Message;
-use reference_grammars::tree::Block;
 use std::alloc::Global;
 use std::mem::swap;
 
@@ -127,7 +127,7 @@ pub fn push<'a>(blocks: &mut Blocks<'a>, whole: Whole<'a>) -> Result<(), Message
 }
 
 /// Adds a block at the end, with those in it.
-#[tactic(auto, using(reference_grammars::proofs::TreeLemmas::meanings_push))]
+#[tactic(auto, using(crate::proofs::TreeLemmas::meanings_push))]
 pub fn push_whole<'a>(blocks: &mut Blocks<'a>, whole: Whole<'a>) -> Result<(), Message>
     ensures { OnOk result
         (blocks_meaning blocks.new ≡ then_block (blocks_meaning blocks.old) (meaning whole.entry.block)) }

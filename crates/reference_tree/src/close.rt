@@ -4,7 +4,7 @@ ghost use Rattle.std.specs.Prelude.{◌≡◌, ◌≤◌, length, take, drop, If
 ghost use Rattle.std.specs.List.{suffix_len};
 ghost use Rattle.md_meaning.specs.Rest.{is_blank};
 ghost use Rattle.md_meaning.specs.State as state;
-ghost use Rattle.reference_grammars.specs.Trees.{meaning, line_meanings};
+ghost use Rattle.reference_tree.specs.Trees.{meaning, line_meanings};
 ghost use Rattle.reference_tree.specs.Held.{blocks_meaning};
 ghost use Rattle.reference_tree.specs.States.{container_meaning, spot_meaning, path_meaning, within};
 
@@ -12,10 +12,10 @@ use crate::blocks::{Blocks, Whole, push_block, push_whole};
 use crate::leaves::fence_block;
 use crate::paragraph::with_paragraph;
 use crate::state::{Container, Frame, Innermost, Leaf, Path};
+use crate::tree::{Block, Line};
 use md_engine::configuration::ParseOptions;
 use md_engine::message::Message;
 use md_scan::bytes::is_blank;
-use reference_grammars::tree::{Block, Line};
 use std::alloc::Global;
 
 /// How many blank lines are at the end.

@@ -5,18 +5,18 @@ ghost use Rattle.std.specs.List.{prefix_len};
 ghost use Rattle.md_meaning.specs.Alert.{alert_at};
 ghost use Rattle.md_meaning.specs.Containers as containers;
 ghost use Rattle.md_meaning.specs.Lines as lines;
-ghost use Rattle.reference_grammars.specs.Rests.{rest_meaning};
+ghost use Rattle.reference_tree.specs.Rests.{rest_meaning};
 ghost use Rattle.reference_tree.specs.States.{container_meaning, taken_meaning, taken_option};
 ghost use Rattle.reference_tree.specs.Markers.{marker_meaning, marker_option, label_split};
 
+use crate::alert::{after_marker, alert_at};
 use crate::leaves::is_rule;
+use crate::rest::Rest;
 use crate::state::{Container, Taken};
 use md_engine::configuration::ParseOptions;
 use md_meaning::alert::AlertKind;
 use md_scan::ahead::begins_with;
 use md_scan::bytes::{is_blank, is_parted, is_white};
-use reference_grammars::alert::{after_marker, alert_at};
-use reference_grammars::rest::Rest;
 
 /// A quote's prefix: a small indent, `>`, and one column of whitespace if there is one (CommonMark 5.1).
 #[tactic(auto, unfolding(md_meaning::specs::Containers::quote_taken))]

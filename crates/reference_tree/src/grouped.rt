@@ -4,7 +4,7 @@ ghost use Rattle.std.specs.Prelude.{◌≡◌, ◌==◌, ◌++◌, reverse, IfOk
 ghost use Rattle.md_meaning.specs.Tree as tree;
 ghost use Rattle.md_meaning.specs.Grouped as grouped;
 ghost use Rattle.md_meaning.specs.State.{container_block};
-ghost use Rattle.reference_grammars.specs.Trees.{meaning};
+ghost use Rattle.reference_tree.specs.Trees.{meaning};
 ghost use Rattle.reference_tree.specs.Groups.{then_groups, AddsItem, Adds, OpensTo};
 ghost use Rattle.reference_tree.specs.Groups.{forward, around, around_all, left_to_group, progress_meaning, with_next};
 ghost use Rattle.reference_tree.specs.Held.{blocks_meaning};
@@ -13,9 +13,9 @@ ghost use Rattle.reference_tree.specs.States.{container_meaning};
 use crate::blocks::{Blocks, Whole, push};
 use crate::close::container_block as closed_block;
 use crate::state::Container;
+use crate::tree::Block;
 use md_engine::message::Message;
 use md_scan::memory;
-use reference_grammars::tree::Block;
 use std::alloc::Global;
 
 /// Blocks that are done, and after them items with one marker that may still become more.

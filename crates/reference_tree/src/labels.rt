@@ -3,17 +3,17 @@
 ghost use Rattle.std.specs.Prelude.{◌≡◌, [], ◌∷◌, ◌++◌, map, string_bytes, IfOk, OnOk};
 ghost use Rattle.md_meaning.specs.Label as label;
 ghost use Rattle.md_scan.specs.Definitions.{texts};
-ghost use Rattle.reference_grammars.specs.Trees.{meaning};
+ghost use Rattle.reference_tree.specs.Trees.{meaning};
 ghost use Rattle.reference_tree.specs.Held.{blocks_meaning};
 ghost use Rattle.reference_tree.specs.Labels.{labels_at, labels_meaning, own_labels};
 ghost use Rattle.reference_tree.specs.Placed.{places};
 
 use crate::blocks::Blocks;
 use crate::order::{Place, in_order};
+use crate::tree::Block;
 use md_engine::message::Message;
 use md_scan::label::form_of_bytes;
 use md_scan::memory;
-use reference_grammars::tree::Block;
 use std::alloc::Global;
 
 /// The normal forms of the labels of a tree, in source order, repeats kept.

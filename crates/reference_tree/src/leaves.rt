@@ -7,22 +7,22 @@ ghost use Rattle.std.specs.Option.{option_copied, option_or};
 ghost use Rattle.md_meaning.specs.Leaves as leaves;
 ghost use Rattle.md_meaning.specs.Rest.{is_blank, is_white, is_parted};
 ghost use Rattle.md_meaning.specs.State.{fence_block, OpenCode, OpenHtml, OpenTable};
-ghost use Rattle.reference_grammars.specs.Rests.{rest_meaning};
-ghost use Rattle.reference_grammars.specs.Trees.{meaning, line_meanings, slices};
+ghost use Rattle.reference_tree.specs.Rests.{rest_meaning};
+ghost use Rattle.reference_tree.specs.Trees.{meaning, line_meanings, slices};
 ghost use Rattle.reference_tree.specs.States.{opening_meaning, result_meaning, result_option, against_meaning};
 ghost use Rattle.reference_tree.specs.States.{leaf_meaning, proceeded_option, HandsBack};
 
+use crate::html::{HtmlKind, html_ends, html_kind};
+use crate::rest::Rest;
 use crate::state::{Leaf, LeafResult, Opening, ParagraphContext};
+use crate::table::row_cells;
+use crate::tree::{Block, Line};
 use md_engine::configuration::ParseOptions;
 use md_engine::message::Message;
 use md_meaning::outline::Word;
 use md_scan::bytes::{is_blank, is_parted, is_white, run_len, trim_start};
 use md_scan::heading::heading_text;
 use md_scan::memory;
-use reference_grammars::html::{HtmlKind, html_ends, html_kind};
-use reference_grammars::rest::Rest;
-use reference_grammars::table::row_cells;
-use reference_grammars::tree::{Block, Line};
 use std::alloc::Global;
 
 /// Whether a line has only this byte, spaces and tabs.

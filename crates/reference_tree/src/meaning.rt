@@ -8,20 +8,20 @@ ghost use Rattle.md_meaning.specs.Preamble.{without_mark, first_column, rests_at
 ghost use Rattle.md_meaning.specs.State as state;
 ghost use Rattle.md_meaning.specs.Step as definition;
 ghost use Rattle.md_meaning.specs.Tree.{End, More};
-ghost use Rattle.reference_grammars.specs.Rests.{rest_meanings};
-ghost use Rattle.reference_grammars.specs.Trees.{meaning};
+ghost use Rattle.reference_tree.specs.Rests.{rest_meanings};
+ghost use Rattle.reference_tree.specs.Trees.{meaning};
 ghost use Rattle.reference_tree.specs.Held.{blocks_meaning};
 
 use crate::blocks::Blocks;
 use crate::close::closed;
 use crate::grouped::grouped;
+use crate::lines::rests_of;
+use crate::preamble::{Front, front_of, has_mark};
+use crate::rest::Rest;
 use crate::state::{Innermost, Leaf, Path};
 use crate::step::step;
 use md_engine::configuration::ParseOptions;
 use md_engine::message::Message;
-use reference_grammars::lines::rests_of;
-use reference_grammars::preamble::{Front, front_of, has_mark};
-use reference_grammars::rest::Rest;
 use std::alloc::Global;
 
 /// The lines after a byte order mark, whose bytes are columns of the first.

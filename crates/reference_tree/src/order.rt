@@ -1,12 +1,12 @@
 // The blocks of a tree in the order in which they begin, each with its depth.
 
 ghost use Rattle.std.specs.Prelude.{◌≡◌, ◌+◌, ◌++◌, ◌∷◌, [], IfOk, OnOk};
-ghost use Rattle.reference_grammars.specs.Trees.{meaning, meanings};
+ghost use Rattle.reference_tree.specs.Trees.{meaning, meanings};
 ghost use Rattle.reference_tree.specs.Placed.{blocks_in, left, placed, places};
 
+use crate::tree::Block;
 use md_engine::message::Message;
 use md_scan::memory;
-use reference_grammars::tree::Block;
 use std::alloc::Global;
 
 /// A block, and the number of blocks that it is in.

@@ -4,7 +4,7 @@ ghost use Rattle.std.specs.Prelude.{◌≡◌, ◌+◌, [], ◌∷◌, ◌++◌,
 ghost use Rattle.std.specs.Option.{option_copied, option_map};
 ghost use Rattle.md_meaning.specs.Outline as spec;
 ghost use Rattle.md_meaning.specs.declared.outline.Word.TheVariants as words;
-ghost use Rattle.reference_grammars.specs.Trees.{meaning, line_meanings, slices};
+ghost use Rattle.reference_tree.specs.Trees.{meaning, line_meanings, slices};
 ghost use Rattle.reference_tree.specs.Held.{blocks_meaning};
 ghost use Rattle.reference_tree.specs.Outlined.{entry_as, own_entries, own_lines};
 ghost use Rattle.reference_tree.specs.Placed.{places};
@@ -12,11 +12,11 @@ ghost use Rattle.md_meaning.specs.Outline.{entries_of};
 
 use crate::blocks::Blocks;
 use crate::order::{Place, deeper, in_order};
+use crate::tree::{Block, Line};
 use md_engine::message::Message;
 use md_meaning::alert::AlertKind;
 use md_meaning::outline::{OutlineLine, Word};
 use md_scan::memory;
-use reference_grammars::tree::{Block, Line};
 use std::alloc::Global;
 
 /// Adds a line with this text, which is UTF-8 since the tree is cut beside ASCII bytes.

@@ -3,9 +3,9 @@
 ghost use Rattle.std.specs.Prelude.{◌≡◌, ◌==◌, length, OnOk, IfOk};
 ghost use Rattle.md_meaning.specs.State as state;
 ghost use Rattle.md_meaning.specs.Leaves as leaves;
-ghost use Rattle.reference_grammars.specs.Definitions.{cut_meaning, defined_meaning};
-ghost use Rattle.reference_grammars.specs.Rests.{rest_meaning};
-ghost use Rattle.reference_grammars.specs.Trees.{meaning, slices};
+ghost use Rattle.reference_tree.specs.Definitions.{cut_meaning, defined_meaning};
+ghost use Rattle.reference_tree.specs.Rests.{rest_meaning};
+ghost use Rattle.reference_tree.specs.Trees.{meaning, slices};
 ghost use Rattle.reference_tree.specs.Held.{blocks_meaning};
 ghost use Rattle.reference_tree.specs.States.{kept_meaning, kept_meanings, spot_meaning};
 ghost use Rattle.reference_tree.specs.Paragraphs.{block_of, definitions_of, head_of, table_spot};
@@ -14,17 +14,17 @@ ghost use Rattle.std.specs.List.{list_all};
 ghost use Rattle.std.specs.Option.{option_map};
 
 use crate::blocks::{Blocks, push_block, push_paragraph};
+use crate::definition::{Cut, Defined, cut_definitions};
+use crate::rest::Rest;
 use crate::state::{Innermost, Leaf, ParagraphLine};
+use crate::table::{delimiter_columns, row_cells};
+use crate::tree::Block;
 use md_engine::configuration::ParseOptions;
 use md_engine::message::Message;
 use md_scan::bytes::trim;
 use md_scan::columns::is_small;
 use md_scan::memory;
 use md_scan::table::is_head;
-use reference_grammars::definition::{Cut, Defined, cut_definitions};
-use reference_grammars::rest::Rest;
-use reference_grammars::table::{delimiter_columns, row_cells};
-use reference_grammars::tree::Block;
 use std::alloc::Global;
 
 /// The texts of these lines.

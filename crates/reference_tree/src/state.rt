@@ -1,10 +1,10 @@
 // What is open between two lines: containers, and at most one leaf in the innermost (CommonMark, appendix).
 
 use crate::blocks::Blocks;
+use crate::html::HtmlKind;
+use crate::rest::Rest;
+use crate::tree::{Block, Line};
 use md_meaning::alert::AlertKind;
-use reference_grammars::html::HtmlKind;
-use reference_grammars::rest::Rest;
-use reference_grammars::tree::{Block, Line};
 
 /// An open container.
 #[derive(Clone, Copy)]

@@ -5,7 +5,7 @@ ghost use Rattle.md_meaning.specs.Tree.{End};
 ghost use Rattle.md_meaning.specs.State as state;
 ghost use Rattle.md_meaning.specs.Leaves.{Text, is_continued, starts, table_at};
 ghost use Rattle.md_meaning.specs.Step as definition;
-ghost use Rattle.reference_grammars.specs.Rests.{rest_meaning};
+ghost use Rattle.reference_tree.specs.Rests.{rest_meaning};
 ghost use Rattle.reference_tree.specs.Held.{blocks_meaning};
 ghost use Rattle.reference_tree.specs.States.{kept_meanings, leaf_meaning, spot_meaning, result_meaning, taken_meaning};
 ghost use Rattle.reference_tree.specs.States.{path_meaning, within};
@@ -18,6 +18,7 @@ use crate::leaves::{Transition, is_continued, is_found, starts};
 use crate::paragraph::{
     head_cells, underline_depth, underlined, with_line, with_paragraph, with_table,
 };
+use crate::rest::Rest;
 use crate::state::{
     Frame, Innermost, Leaf, LeafResult, ParagraphContext, ParagraphLine, Path, Taken,
 };
@@ -25,7 +26,6 @@ use md_engine::configuration::ParseOptions;
 use md_engine::message::Message;
 use md_scan::bytes::is_blank;
 use md_scan::memory;
-use reference_grammars::rest::Rest;
 use std::alloc::Global;
 
 /// What a leaf became, after these blocks.

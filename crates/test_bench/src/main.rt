@@ -1,9 +1,9 @@
 // The bench. The first argument says what is tried: `blocks` the parser, `references` its rows of events with that
 // layer, `plain` the plain program, `levels` both on deep nesting, `agree` both against each other on short texts,
-// `nasty` the same where constructs meet; without one it is all of these but `agree`, which is the program
-// `test_agree`. After `blocks` and `plain` is a task of `test_runner::task`, after `levels` how many containers are in
-// one another, after `agree` the most letters of a text, after `nasty` a task of `test_runner::nasty`. It prints what
-// disagreed, and then how much was tried.
+// `nasty` the same where constructs meet; without one it is all of these, `agree` with fewer letters. After `blocks`
+// and `plain` is a task of `test_rows::runner::task`, after `levels` how many containers are in one another, after
+// `agree` the most letters of a text, after `nasty` a task of `test_rows::runner::nasty`. It prints what disagreed, and
+// then how much was tried.
 #![tactic(auto)]
 
 mod referenced;
@@ -14,15 +14,18 @@ use referenced::Referenced;
 use std::alloc::Global;
 use std::{env, io};
 use test_rows::case::CaseError;
-use test_runner::agree::{MOST, try_agree};
-use test_runner::deep::try_levels;
-use test_runner::event_rows::try_event_rows;
-use test_runner::nasty::Nasty;
-use test_runner::report::Report;
-use test_runner::task::Task;
+use test_rows::runner::agree::{MOST, try_agree};
+use test_rows::runner::deep::try_levels;
+use test_rows::runner::event_rows::try_event_rows;
+use test_rows::runner::nasty::Nasty;
+use test_rows::runner::report::Report;
+use test_rows::runner::task::Task;
 
 /// So many levels where no argument says it.
 const LEVELS: usize = 100_000;
+
+/// The most letters of a text where no argument says what is tried: a program has a limited time.
+const LETTERS: usize = 5;
 
 /// Something to try.
 #[derive(Clone, Copy)]
@@ -37,7 +40,7 @@ enum Bench {
 
 impl Bench {
     /// What is tried without an argument.
-    const ALL: [Bench; 8] = [
+    const ALL: [Bench; 9] = [
         Bench::Blocks(Task::Rows),
         Bench::References,
         Bench::Plain(Task::Rows),
@@ -46,6 +49,7 @@ impl Bench {
         Bench::Nasty(Nasty::FRAGMENTS),
         Bench::Nasty(Nasty::RANDOM),
         Bench::Nasty(Nasty::ALERTS),
+        Bench::Agree(LETTERS),
     ];
 
     /// What these arguments name, or `None` where they name nothing.

@@ -1,4 +1,4 @@
-// Rows that a body of the parser is tried on: texts with the outlines that they must give.
+// Rows that a body of the parser is tried on: texts with the outlines that they must give; `runner` does so.
 //
 // The rows of a module are one text, so that a check takes them as data. Rows are apart by an empty line. A row is:
 //
@@ -36,6 +36,7 @@ pub mod items;
 pub mod lines;
 pub mod lists;
 pub mod quotes;
+pub mod runner;
 pub mod table_parts;
 pub mod tables;
 pub mod tabs;

@@ -28,7 +28,7 @@ use Rattle.proof_rows.specs.Rows.{group_events, leaf_done, leaf_events, groups_e
 use Rattle.proof_rows.specs.Rows.{row_events, rows_events, tail_events, text_done, turned_done}
 use Rattle.proof_frame.specs.Row.{BlankRow, LeafRow, Row, RowKind, TextRow, is_blank_by, span_done, ending_of, last_row}
 use Rattle.proof_content_laws.specs.Defined.{defined_unread}
-use Rattle.proof_table_laws.specs.Headed.{headed_done}
+use Rattle.proof_leaf_laws.specs.Headed.{headed_done}
 use Rattle.proof_rows.specs.Unread.{headed_lines, unread_group, unread_groups}
 use Rattle.proof_frame.proofs.ContentFacts.{content-alone, no_content-label}
 use Rattle.proof_content_laws.proofs.Defined.Facts.{defined-facts}

@@ -8,7 +8,7 @@ use Rattle.md_engine.specs.declared.event.Event.{Event}
 use Rattle.md_engine.specs.declared.event.Name.{Name}
 use Rattle.md_engine.specs.declared.event.Name.TheVariants as n
 use Rattle.md_engine.specs.declared.event.Point.{Point}
-use Rattle.md_code.specs.Fence.{block_name, may_begin as is_begun}
+use Rattle.md_literal.specs.Fence.{block_name, may_begin as is_begun}
 use Rattle.md_events.specs.Events.Nested.{around}
 use Rattle.md_exact.specs.Leaves.{content_line, fence_part, fenced_line, info_parts, leaf}
 use Rattle.md_exact.specs.Places.{TextLine, line_end, place, white}

@@ -2,11 +2,11 @@
 use Rattle.std.proofs.Common.{ℕ, List, [], ◌∷◌, ap}
 use Rattle.md_engine.specs.declared.configuration.ParseOptions.{ParseOptions}
 use Rattle.md_engine.specs.Meaning.{Cell, Here, Outcome}
-use Rattle.md_code.specs.Fence.{cleared, is_on, is_refused}
+use Rattle.md_literal.specs.Fence.{cleared, is_on, is_refused}
 use Rattle.md_leaves.specs.CellRuns.{after_columns, after_white_of, is_end, is_line, is_word, run_has, run_rest}
 use Rattle.md_leaves.specs.CellRuns.{run_size}
-use Rattle.md_code.specs.FenceRule.{after_sequence, before_info, before_meta, before_sequence, fence_at, in_info}
-use Rattle.md_code.specs.FenceRule.{in_meta, in_sequence}
+use Rattle.md_literal.specs.FenceRule.{after_sequence, before_info, before_meta, before_sequence, fence_at, in_info}
+use Rattle.md_literal.specs.FenceRule.{in_meta, in_sequence}
 use Rattle.md_meaning.specs.Leaves.{is_fence_marker, least_size}
 use Rattle.md_events.specs.Ahead.{begins_white, white_rest}
 use Rattle.md_events.specs.Spaces.{IsRest, any_size, calmed, small_indent}

@@ -16,7 +16,7 @@ use Rattle.md_meaning.specs.Rest.{is_blank, run_len}
 use Rattle.md_meaning.specs.Texts.{first_byte}
 use Rattle.md_meaning.specs.Tree.{Line}
 use Rattle.md_meaning.proofs.TextsLemmas.{NoEnding}
-use Rattle.md_code.specs.CodeLine as code
+use Rattle.md_literal.specs.CodeLine as code
 use Rattle.md_outline.specs.Between.{is_between}
 use Rattle.md_containers.specs.ItemsAllowed.{IsPart}
 use Rattle.md_outline.specs.LinesAllowed.{AtEnd, AtEnding, AtLine, AtMarkers}

@@ -23,8 +23,8 @@ use Rattle.md_meaning.specs.Rest.{is_blank, is_white, run_len}
 use Rattle.md_meaning.proofs.TextsLemmas.{NoEnding, no_ending-drop}
 use Rattle.md_leaves.specs.Heading.{without_size}
 use Rattle.md_leaves.specs.CellRuns.{after_white_of, is_end, run_end, run_rest, run_size, with_event}
-use Rattle.md_code.proofs.FenceCells.{RunOf, end-blank, first-spread, run-length, run-walk}
-use Rattle.md_code.proofs.FenceWhole.{white-joined}
+use Rattle.md_literal.proofs.FenceCells.{RunOf, end-blank, first-spread, run-length, run-walk}
+use Rattle.md_literal.proofs.FenceWhole.{white-joined}
 use Rattle.md_events.specs.Ahead.{begins_white, point_after, white_end, white_rest}
 use Rattle.md_events.specs.Events.Nested.{enter, exit, pair}
 use Rattle.md_events.specs.Events.Places.{past_text}

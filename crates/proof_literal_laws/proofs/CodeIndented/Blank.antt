@@ -11,7 +11,7 @@ use Rattle.md_leaves.specs.declared.spans.Place.{Place}
 use Rattle.md_leaves.specs.declared.spans.Place.TheVariants.{Between, Inside, Outside}
 use Rattle.md_leaves.specs.Spanned.{name_at, renamed}
 use Rattle.md_leaves.proofs.SpannedLines.{NoBlocks}
-use Rattle.md_code.proofs.CodeLines.{blank-line}
+use Rattle.md_literal.proofs.CodeLines.{blank-line}
 use Rattle.md_events.specs.Events.Grammar.{blocks}
 use Rattle.md_events.specs.Events.Nested.{pair}
 use Rattle.md_events.proofs.GrammarLemmas as grammar

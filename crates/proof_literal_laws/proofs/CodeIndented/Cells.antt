@@ -18,10 +18,10 @@ use Rattle.md_engine.specs.Meaning.{Cell}
 use Rattle.md_meaning.specs.Bytes.{is_end}
 use Rattle.md_meaning.specs.Rest.{Rest, cut_tab, indent, is_blank, lose}
 use Rattle.md_meaning.proofs.TextsLemmas.{NoEnding}
-use Rattle.md_code.specs.Code.{may_open}
-use Rattle.md_code.specs.CodeRule.{blank_adds, code_continues, is_indented, line_adds}
+use Rattle.md_literal.specs.Code.{may_open}
+use Rattle.md_literal.specs.CodeRule.{blank_adds, code_continues, is_indented, line_adds}
 use Rattle.md_leaves.specs.Further.{further_link}
-use Rattle.md_code.proofs.CodeLines.{blank-line, indented-same}
+use Rattle.md_literal.proofs.CodeLines.{blank-line, indented-same}
 use Rattle.md_events.specs.Ahead.{line_bytes, line_end, white_end}
 use Rattle.md_events.specs.Events.Nested.{enter, enter_link, exit, pair}
 use Rattle.md_events.specs.Events.Places.{past_text}

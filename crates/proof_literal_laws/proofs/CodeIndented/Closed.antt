@@ -8,7 +8,7 @@ use Rattle.md_meaning.specs.Leaves.{code_line}
 use Rattle.md_meaning.specs.Rest.{Rest, is_blank}
 use Rattle.md_meaning.specs.State.{without_trailing_blank}
 use Rattle.md_meaning.specs.Tree.{Line}
-use Rattle.md_code.proofs.CodeLines.{blank-line}
+use Rattle.md_literal.proofs.CodeLines.{blank-line}
 use Rattle.proof_frame.specs.Row.{Row}
 use Rattle.proof_literal_laws.proofs.CodeIndented.Rows.{AreInCode, lines_after}
 

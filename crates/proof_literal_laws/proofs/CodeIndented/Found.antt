@@ -8,7 +8,7 @@ use Rattle.md_meaning.specs.Leaves.{LeafResult, ParagraphContext, code_at, code_
 use Rattle.md_meaning.specs.Rest.{Rest, indent, is_blank}
 use Rattle.md_meaning.specs.State.{NoLeaf, OpenCode}
 use Rattle.md_meaning.specs.Tree.{Line}
-use Rattle.md_code.specs.Code.{may_open}
+use Rattle.md_literal.specs.Code.{may_open}
 use Rattle.proof_literal_laws.specs.Leaf.CodeIndented.{code_further, code_leaf}
 
 -- a test that no blank line passes

@@ -8,7 +8,7 @@ use Rattle.md_engine.specs.declared.tokenizer.held_leaf.HeldLeaf.TheVariants as 
 use Rattle.md_engine.specs.Meaning.{Cell}
 use Rattle.md_engine.specs.World.{World}
 use Rattle.md_meaning.specs.Rest.{is_blank, is_white}
-use Rattle.md_code.specs.Code.{may_open}
+use Rattle.md_literal.specs.Code.{may_open}
 use Rattle.md_events.specs.Ahead.{begins_white, line_bytes}
 use Rattle.md_events.specs.Look.{following_code, first_following, looks_after, may_with, seen_after}
 use Rattle.md_events.specs.Spaces.{sees_white}

@@ -12,7 +12,7 @@ use Rattle.md_engine.specs.declared.tokenizer.held_leaf.HeldLeaf.{HeldLeaf}
 use Rattle.md_engine.specs.Meaning.{Cell}
 use Rattle.md_meaning.specs.Bytes.{is_end}
 use Rattle.md_meaning.specs.Rest.{Rest, is_blank}
-use Rattle.md_code.specs.CodeRule.{blank_adds, line_adds}
+use Rattle.md_literal.specs.CodeRule.{blank_adds, line_adds}
 use Rattle.md_leaves.specs.Further.{further_link}
 use Rattle.md_events.specs.Ahead.{begins_white, line_bytes, line_end, white_end, white_rest}
 use Rattle.md_events.specs.Events.Nested.{enter, enter_link, exit, pair}

@@ -11,7 +11,7 @@ use Rattle.md_meaning.specs.Rest.{Rest, is_blank}
 use Rattle.md_meaning.specs.State.{OpenCode, shut, then_block}
 use Rattle.md_meaning.specs.Step.{became}
 use Rattle.md_meaning.specs.Tree.{Blocks, Code, Line}
-use Rattle.md_code.proofs.CodeLines.{blank-line}
+use Rattle.md_literal.proofs.CodeLines.{blank-line}
 use Rattle.proof_literal_laws.specs.Leaf.CodeIndented.{code_becomes, code_further}
 use Rattle.proof_frame.specs.Row.{Row, any_framed, is_framed, last_row}
 use Rattle.proof_literal_laws.proofs.CodeIndented.Closed.{AreBlank, lines-trailing, trailing-blank}

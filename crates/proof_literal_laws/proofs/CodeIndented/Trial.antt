@@ -12,10 +12,10 @@ use Rattle.md_engine.specs.Meaning.{Accepts, Cell, Fails, Here, Outcome, Refuses
 use Rattle.md_meaning.specs.Bytes.{is_end}
 use Rattle.md_meaning.specs.Rest.{is_blank}
 use Rattle.md_leaves.proofs.LeafSteps.{ended}
-use Rattle.md_code.specs.Code.{may_open}
-use Rattle.md_code.specs.CodeRule.{at_break, code_continues, further_after, further_begin, further_inside}
-use Rattle.md_code.specs.CodeRule.{further_line, in_blank, in_text, is_indented, line_at, line_by, or_blank}
-use Rattle.md_code.proofs.CodeWhole.{code-line, code-on}
+use Rattle.md_literal.specs.Code.{may_open}
+use Rattle.md_literal.specs.CodeRule.{at_break, code_continues, further_after, further_begin, further_inside}
+use Rattle.md_literal.specs.CodeRule.{further_line, in_blank, in_text, is_indented, line_at, line_by, or_blank}
+use Rattle.md_literal.proofs.CodeWhole.{code-line, code-on}
 use Rattle.md_events.specs.Ahead.{begins_white, line_bytes, white_rest}
 use Rattle.md_events.specs.Spaces.{IsRest, calmed}
 use Rattle.md_events.proofs.RestCells.{white-length}

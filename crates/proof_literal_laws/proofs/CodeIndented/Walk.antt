@@ -10,7 +10,7 @@ use Rattle.md_meaning.specs.Leaves.{code_line}
 use Rattle.md_meaning.specs.Rest.{Rest, indent, is_blank, lose}
 use Rattle.md_meaning.specs.Tree.{Line}
 use Rattle.md_leaves.specs.Further.{further_link}
-use Rattle.md_code.proofs.CodeLines.{blank-line}
+use Rattle.md_literal.proofs.CodeLines.{blank-line}
 use Rattle.md_outline.specs.LinesAllowed.{Site}
 use Rattle.md_outline.proofs.LinesPass.{ended_site}
 use Rattle.md_events.specs.Events.Grammar.{Expression, following, may_end}

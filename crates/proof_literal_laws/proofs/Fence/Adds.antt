@@ -17,18 +17,18 @@ use Rattle.md_meaning.specs.Leaves.{after_word, fence_at, first_word, nonempty}
 use Rattle.md_meaning.specs.Rest.{Rest, after_indent, cut_tab, indent, is_white, run_len, trim_start}
 use Rattle.md_meaning.specs.Texts.{first_byte}
 use Rattle.md_meaning.proofs.TextsLemmas.{NoEnding, no_ending-drop}
-use Rattle.md_code.specs.Fence.{block_name, fence_name, may_begin, meta_name, sequence_name}
-use Rattle.md_code.specs.FenceLine.{after_events, fence_adds, open_events, spaces}
-use Rattle.md_code.specs.FenceParts.{bytes_at, part_of, parts_of}
+use Rattle.md_literal.specs.Fence.{block_name, fence_name, may_begin, meta_name, sequence_name}
+use Rattle.md_literal.specs.FenceLine.{after_events, fence_adds, open_events, spaces}
+use Rattle.md_literal.specs.FenceParts.{bytes_at, part_of, parts_of}
 use Rattle.md_leaves.specs.CellRuns.{run_end, run_rest}
-use Rattle.md_code.proofs.FenceCells.{RunOf, marker-dark, marker-ten, run-walk}
-use Rattle.md_code.proofs.FenceFurther.{small-following}
+use Rattle.md_literal.proofs.FenceCells.{RunOf, marker-dark, marker-ten, run-walk}
+use Rattle.md_literal.proofs.FenceFurther.{small-following}
 use Rattle.md_events.proofs.RestLines.{indent-trims, rest-past}
-use Rattle.md_code.proofs.FenceFurther as further
-use Rattle.md_code.proofs.FenceOpened.{marker-may}
+use Rattle.md_literal.proofs.FenceFurther as further
+use Rattle.md_literal.proofs.FenceOpened.{marker-may}
 use Rattle.md_events.proofs.AheadLemmas.{white-all}
-use Rattle.md_code.proofs.FenceParts.{Valid, following-agrees, after_info, between, meta_point, prefix-take}
-use Rattle.md_code.proofs.FenceParts.{valid-following}
+use Rattle.md_literal.proofs.FenceParts.{Valid, following-agrees, after_info, between, meta_point, prefix-take}
+use Rattle.md_literal.proofs.FenceParts.{valid-following}
 use Rattle.md_events.specs.Ahead.{white_end, white_rest}
 use Rattle.md_events.specs.Events.Nested.{enter, exit, pair}
 use Rattle.md_events.specs.Events.Places.{past_byte, past_text}

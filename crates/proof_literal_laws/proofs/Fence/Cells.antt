@@ -10,8 +10,8 @@ use Rattle.md_meaning.specs.Leaves.{LeafResult, Opened, fence_at}
 use Rattle.md_meaning.specs.Rest.{Rest}
 use Rattle.md_meaning.specs.State.{OpenFence, Opening}
 use Rattle.md_meaning.proofs.TextsLemmas.{NoEnding}
-use Rattle.md_code.specs.FenceLine.{fence_begins}
-use Rattle.md_code.proofs.FenceOpens.{HeldAs, opens-agrees}
+use Rattle.md_literal.specs.FenceLine.{fence_begins}
+use Rattle.md_literal.proofs.FenceOpens.{HeldAs, opens-agrees}
 use Rattle.md_events.proofs.FeedLines.{Stops}
 use Rattle.md_events.proofs.RestCells.{RestAt, rest_cells}
 use Rattle.proof_literal_laws.specs.Leaf.Fence.{fence_keeps, held_of, is_fence, opening_at, or_none}

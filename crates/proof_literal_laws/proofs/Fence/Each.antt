@@ -12,9 +12,9 @@ use Rattle.md_engine.specs.Meaning.{Cell}
 use Rattle.md_meaning.specs.Leaves.{first_word}
 use Rattle.md_meaning.specs.Rest.{is_white, run_len, trim_start}
 use Rattle.md_meaning.specs.Texts.{first_byte}
-use Rattle.md_code.specs.Fence.{block_name, fence_name, held_marker, meta_name, sequence_name, string_link}
-use Rattle.md_code.specs.FenceLine.{after_events, fence_adds, info_events, later_part, meta_events, open_events}
-use Rattle.md_code.specs.FenceLine.{spaces}
+use Rattle.md_literal.specs.Fence.{block_name, fence_name, held_marker, meta_name, sequence_name, string_link}
+use Rattle.md_literal.specs.FenceLine.{after_events, fence_adds, info_events, later_part, meta_events, open_events}
+use Rattle.md_literal.specs.FenceLine.{spaces}
 use Rattle.md_leaves.specs.CellRuns.{is_end, is_line, is_word, run_end, run_rest}
 use Rattle.md_events.specs.Ahead.{begins_white, line_end, white_end, white_rest}
 use Rattle.md_events.specs.Events.Nested.{around, enter, enter_link, exit, pair}

@@ -14,7 +14,7 @@ use Rattle.md_engine.specs.declared.event.Point.{Point}
 use Rattle.md_containers.specs.ItemsAllowed.{IsPart}
 use Rattle.md_meaning.specs.Rest.{trim_start}
 use Rattle.md_meaning.specs.Texts.{first_byte}
-use Rattle.md_code.specs.Fence.{sequence_name, string_link}
+use Rattle.md_literal.specs.Fence.{sequence_name, string_link}
 use Rattle.md_outline.specs.Roles.{is_recorded, is_unlisted}
 use Rattle.md_events.specs.declared.inline.PartKind.TheVariants.{String}
 use Rattle.md_events.specs.Events.Inline.{plain_chunk}

@@ -7,7 +7,7 @@ use Rattle.md_engine.specs.declared.event.Point.{Point}
 use Rattle.md_containers.specs.ItemsAllowed.{IsPart}
 use Rattle.md_meaning.specs.Lines.{without_ending}
 use Rattle.md_meaning.specs.Rest.{is_white}
-use Rattle.md_code.specs.Fence.{fence_name}
+use Rattle.md_literal.specs.Fence.{fence_name}
 use Rattle.md_events.specs.Events.Inline.{line_end}
 use Rattle.md_events.specs.Events.Nested.{around, exit, pair}
 use Rattle.md_events.specs.Events.Places.{past_text}

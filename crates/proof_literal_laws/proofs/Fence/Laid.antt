@@ -12,9 +12,9 @@ use Rattle.md_meaning.specs.Leaves.{fence_at}
 use Rattle.md_meaning.specs.Rest.{Rest, is_white, trim_start}
 use Rattle.md_meaning.specs.Texts.{first_byte}
 use Rattle.md_meaning.proofs.TextsLemmas.{no_ending-drop}
-use Rattle.md_code.specs.Fence.{may_begin}
+use Rattle.md_literal.specs.Fence.{may_begin}
 use Rattle.md_events.proofs.RestLines.{count-none, count-one}
-use Rattle.md_code.proofs.FenceOpened.{marker-may}
+use Rattle.md_literal.proofs.FenceOpened.{marker-may}
 use Rattle.md_events.specs.Events.Places.{past_byte, past_text}
 use Rattle.md_events.proofs.FeedLines.{past_text-whole}
 use Rattle.md_events.proofs.InlineLemmas.{past_text-append}

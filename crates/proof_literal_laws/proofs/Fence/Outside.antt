@@ -10,9 +10,9 @@ use Rattle.md_engine.specs.declared.event.Point.{Point}
 use Rattle.md_engine.specs.declared.tokenizer.held_leaf.HeldLeaf.{HeldLeaf}
 use Rattle.md_engine.specs.declared.tokenizer.held_leaf.HeldLeaf.TheVariants as held_leaf
 use Rattle.md_engine.specs.Meaning.{Cell}
-use Rattle.md_code.specs.FenceLine.{fence_adds, fence_opened, is_opening, marker_at}
+use Rattle.md_literal.specs.FenceLine.{fence_adds, fence_opened, is_opening, marker_at}
 use Rattle.md_leaves.specs.CellRuns.{run_size}
-use Rattle.md_code.specs.Fence.{is_on}
+use Rattle.md_literal.specs.Fence.{is_on}
 use Rattle.md_events.specs.Ahead.{white_end, white_rest}
 use Rattle.md_events.specs.Spaces.{small_indent}
 use Rattle.proof_frame.specs.HeldLeaf.{takes_lazy}

@@ -11,8 +11,8 @@ use Rattle.md_engine.specs.declared.event.Point.{Point}
 use Rattle.md_meaning.specs.Leaves.{after_word, first_word, nonempty}
 use Rattle.md_meaning.specs.Rest.{is_white, run_len, trim_start}
 use Rattle.md_meaning.specs.Texts.{first_byte}
-use Rattle.md_code.specs.Fence.{fence_name, sequence_name}
-use Rattle.md_code.proofs.FenceParts.{prefix-take}
+use Rattle.md_literal.specs.Fence.{fence_name, sequence_name}
+use Rattle.md_literal.proofs.FenceParts.{prefix-take}
 use Rattle.md_events.specs.Events.Nested.{around, pair}
 use Rattle.md_events.specs.Events.Places.{past_text}
 use Rattle.md_events.specs.Events.Pieces.{may_cover}

@@ -12,15 +12,15 @@ use Rattle.md_engine.specs.declared.tokenizer.held_leaf.HeldLeaf.TheVariants as 
 use Rattle.md_engine.specs.Meaning.{Cell, Here, Outcome, Refuses}
 use Rattle.md_meaning.specs.Leaves.{is_fence_marker, least_size}
 use Rattle.md_meaning.specs.Rest.{is_white}
-use Rattle.md_code.specs.Fence.{is_on, is_refused, may_begin, meta_name, sequence_name}
-use Rattle.md_code.specs.FenceLine.{fence_begins, fence_by, fence_opened, is_opening, marker_at}
+use Rattle.md_literal.specs.Fence.{is_on, is_refused, may_begin, meta_name, sequence_name}
+use Rattle.md_literal.specs.FenceLine.{fence_begins, fence_by, fence_opened, is_opening, marker_at}
 use Rattle.md_leaves.specs.CellRuns.{after_white_of, is_end, is_line, is_word, run_end, run_has, run_rest, run_size}
-use Rattle.md_code.specs.FenceRule.{after_sequence, before_info, before_meta, before_sequence, fence_at, in_info}
-use Rattle.md_code.specs.FenceRule.{in_meta, in_sequence, opens, part_begun, part_ended, refuses}
-use Rattle.md_code.proofs.FenceCells.{line-all, line-done, run-length}
-use Rattle.md_code.proofs.FenceOpened.{fence-whole}
-use Rattle.md_code.proofs.FenceOpens.{marker-no}
-use Rattle.md_code.proofs.FenceRefused.{fence-refused}
+use Rattle.md_literal.specs.FenceRule.{after_sequence, before_info, before_meta, before_sequence, fence_at, in_info}
+use Rattle.md_literal.specs.FenceRule.{in_meta, in_sequence, opens, part_begun, part_ended, refuses}
+use Rattle.md_literal.proofs.FenceCells.{line-all, line-done, run-length}
+use Rattle.md_literal.proofs.FenceOpened.{fence-whole}
+use Rattle.md_literal.proofs.FenceOpens.{marker-no}
+use Rattle.md_literal.proofs.FenceRefused.{fence-refused}
 use Rattle.md_events.specs.Ahead.{begins_white, from_ending, white_end, white_rest}
 use Rattle.md_events.specs.Events.Nested.{exit}
 use Rattle.md_events.specs.Look.{first_seen, seen_after}

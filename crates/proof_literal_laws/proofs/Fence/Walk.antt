@@ -14,9 +14,9 @@ use Rattle.md_meaning.specs.Leaves.{first_word}
 use Rattle.md_meaning.specs.Rest.{is_blank, is_white, run_len, trim_start}
 use Rattle.md_meaning.specs.Texts.{first_byte}
 use Rattle.md_meaning.proofs.TextsLemmas.{NoEnding, no_ending-drop}
-use Rattle.md_code.specs.Fence.{meta_name, sequence_name}
+use Rattle.md_literal.specs.Fence.{meta_name, sequence_name}
 use Rattle.md_events.proofs.RestLines.{count-none, count-one}
-use Rattle.md_code.proofs.FenceParts.{prefix-take}
+use Rattle.md_literal.proofs.FenceParts.{prefix-take}
 use Rattle.md_events.specs.Events.Nested.{around, pair}
 use Rattle.md_events.specs.Events.Pieces.{is_run, may_cover}
 use Rattle.md_events.specs.Events.Places.{past_text}

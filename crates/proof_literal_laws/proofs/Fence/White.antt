@@ -9,11 +9,11 @@ use Rattle.md_engine.specs.declared.event.Point.{Point}
 use Rattle.md_engine.specs.declared.tokenizer.Line.{Line}
 use Rattle.md_engine.specs.Meaning.{Cell}
 use Rattle.md_meaning.specs.Rest.{Rest, is_white}
-use Rattle.md_code.specs.FenceLine.{spaces}
+use Rattle.md_literal.specs.FenceLine.{spaces}
 use Rattle.md_leaves.specs.CellRuns.{run_end}
-use Rattle.md_code.proofs.FenceCells.{first-spread, stop-first}
+use Rattle.md_literal.proofs.FenceCells.{first-spread, stop-first}
 use Rattle.md_events.proofs.RestLines.{count-one}
-use Rattle.md_code.proofs.FenceMeaning.{run-none}
+use Rattle.md_literal.proofs.FenceMeaning.{run-none}
 use Rattle.md_events.specs.Ahead.{begins_white, white_end, white_rest}
 use Rattle.md_events.specs.Events.Nested.{pair}
 use Rattle.md_events.specs.Events.Places.{past_byte, past_text}

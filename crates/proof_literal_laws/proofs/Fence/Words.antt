@@ -10,7 +10,7 @@ use Rattle.md_engine.specs.declared.event.Point.{Point}
 use Rattle.md_meaning.specs.Leaves.{first_word}
 use Rattle.md_meaning.specs.Rest.{is_white, trim_start}
 use Rattle.md_events.proofs.RestLines.{count-none, count-one}
-use Rattle.md_code.proofs.FenceParts.{prefix-take}
+use Rattle.md_literal.proofs.FenceParts.{prefix-take}
 use Rattle.md_events.specs.declared.inline.Chunk.{Chunk}
 use Rattle.md_events.specs.Events.Grammar.{Expression, following, inside, may_end, plain_text, unread_text}
 use Rattle.md_events.specs.Events.Inline.{plain_chunk}

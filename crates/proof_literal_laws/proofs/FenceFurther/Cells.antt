@@ -18,17 +18,18 @@ use Rattle.md_meaning.specs.Leaves.{closes}
 use Rattle.md_meaning.specs.Rest.{Rest, cut_tab, has_small_indent, indent, is_blank, is_white, lose, run_len}
 use Rattle.md_meaning.specs.Rest.{trim_start}
 use Rattle.md_meaning.proofs.TextsLemmas.{NoEnding}
-use Rattle.md_code.specs.Fence.{block_name, chunk_name, fence_name, held_indent, held_marker, held_size, may_begin}
-use Rattle.md_code.specs.Fence.{sequence_name, is_open as is_fence}
-use Rattle.md_code.specs.FenceLine.{chunk_events, closes_here, closing_end, closing_events, further_end, further_inside}
-use Rattle.md_code.specs.FenceLine.{spaces}
+use Rattle.md_literal.specs.Fence.{block_name, chunk_name, fence_name, held_indent, held_marker, held_size, may_begin}
+use Rattle.md_literal.specs.Fence.{sequence_name, is_open as is_fence}
+use Rattle.md_literal.specs.FenceLine.{chunk_events, closes_here, closing_end, closing_events, further_end}
+use Rattle.md_literal.specs.FenceLine.{further_inside}
+use Rattle.md_literal.specs.FenceLine.{spaces}
 use Rattle.md_leaves.specs.CellRuns.{is_line, run_end, run_rest}
 use Rattle.md_leaves.specs.Further.{further_link}
-use Rattle.md_code.proofs.FenceCells.{RunOf, first-spread, marker-dark, marker-ten, run-walk}
-use Rattle.md_code.proofs.FenceFurther.{chunk-agrees, closes-agrees, further-agrees, is_nothing, left_part}
+use Rattle.md_literal.proofs.FenceCells.{RunOf, first-spread, marker-dark, marker-ten, run-walk}
+use Rattle.md_literal.proofs.FenceFurther.{chunk-agrees, closes-agrees, further-agrees, is_nothing, left_part}
 use Rattle.md_events.proofs.LostColumns.{lose-walk}
 use Rattle.md_events.proofs.RestLines.{small-room}
-use Rattle.md_code.proofs.FenceFurther.{small-following}
+use Rattle.md_literal.proofs.FenceFurther.{small-following}
 use Rattle.md_events.specs.Ahead.{begins_white, white_end, white_rest}
 use Rattle.md_events.specs.Events.Nested.{enter, enter_link, exit, pair}
 use Rattle.md_events.specs.Events.Places.{past_text}

@@ -12,8 +12,8 @@ use Rattle.md_meaning.specs.Leaves.{is_fence_marker, least_size, opening}
 use Rattle.md_meaning.specs.Rest.{Rest, has_small_indent, indent, line_of, lose, run_len, trim_start}
 use Rattle.md_meaning.specs.State.{Leaf, OpenFence, Opening, fence_block}
 use Rattle.md_meaning.specs.Tree.{Line}
-use Rattle.md_code.specs.Fence.{held_indent, may_begin, is_open as is_fence}
-use Rattle.md_code.proofs.FenceOpened.{marker-may}
+use Rattle.md_literal.specs.Fence.{held_indent, may_begin, is_open as is_fence}
+use Rattle.md_literal.proofs.FenceOpened.{marker-may}
 use Rattle.proof_frame.specs.HeldLeaf.{kind_of_leaf, left_by}
 use Rattle.proof_literal_laws.specs.Leaf.FenceFurther.{fence_becomes, further_holds, opening_of}
 

@@ -7,7 +7,7 @@ use Rattle.md_engine.specs.declared.event.Point.{Point}
 use Rattle.md_engine.specs.declared.tokenizer.held_leaf.HeldLeaf.{HeldLeaf}
 use Rattle.md_meaning.specs.Leaves.{closes}
 use Rattle.md_meaning.specs.Rest.{Rest, indent, lose, run_len, trim_start}
-use Rattle.md_code.specs.Fence.{block_name, chunk_name, fence_name, held_indent, held_marker, sequence_name}
+use Rattle.md_literal.specs.Fence.{block_name, chunk_name, fence_name, held_indent, held_marker, sequence_name}
 use Rattle.md_events.specs.Events.Grammar.{Expression, Nothing, following, inside, may_end}
 use Rattle.md_events.specs.Events.Nested.{pair}
 use Rattle.md_events.specs.Events.Places.{past_text}

@@ -12,7 +12,7 @@ use Rattle.md_engine.specs.declared.tokenizer.held_leaf.HeldLeaf.{HeldLeaf}
 use Rattle.md_meaning.specs.Leaves.{closes, least_size}
 use Rattle.md_meaning.specs.Rest.{Rest, indent, lose, run_len, trim_start}
 use Rattle.md_meaning.proofs.TextsLemmas.{NoEnding}
-use Rattle.md_code.specs.Fence.{chunk_name, fence_name, held_indent, held_marker, may_begin, sequence_name}
+use Rattle.md_literal.specs.Fence.{chunk_name, fence_name, held_indent, held_marker, may_begin, sequence_name}
 use Rattle.md_events.specs.Events.Pieces.{begins_in_tab, may_cover}
 use Rattle.md_events.specs.Events.Places.{at_or_before, past_text}
 use Rattle.md_events.proofs.FeedLines.{drop-past}
@@ -20,7 +20,7 @@ use Rattle.md_events.proofs.InlineLemmas.{past-index, past_text-append}
 use Rattle.proof_frame.specs.RestLine.{rest_line}
 use Rattle.proof_literal_laws.specs.Leaf.FenceFurther.{chunk_line, closing_line, closing_part, further_parts}
 use Rattle.proof_literal_laws.specs.Leaf.FenceFurther.{opening_of}
-use Rattle.md_code.specs.Fence.{is_open as is_fence}
+use Rattle.md_literal.specs.Fence.{is_open as is_fence}
 use Rattle.proof_frame.specs.LineColumns.{past_columns}
 use Rattle.proof_frame.proofs.IndentRemoved.Placed.{columns-stretch, lost-stretch, over-onward, over-stretch}
 use Rattle.proof_frame.proofs.IndentRemoved.Places.{FurtherAt, has-left}

@@ -12,7 +12,7 @@ use Rattle.md_meaning.specs.Leaves.{closes}
 use Rattle.md_meaning.specs.Rest.{Rest, has_small_indent, lose}
 use Rattle.md_leaves.specs.Spanned.{has_lines}
 use Rattle.md_leaves.proofs.SpannedLines.{IsEnd, IsFurther}
-use Rattle.md_code.specs.Fence.{block_name, chunk_name, held_indent, held_marker, held_size, is_open as is_fence}
+use Rattle.md_literal.specs.Fence.{block_name, chunk_name, held_indent, held_marker, held_size, is_open as is_fence}
 use Rattle.md_leaves.specs.Further.{further_link}
 use Rattle.md_events.specs.Events.Nested.{enter_link, exit, pair}
 use Rattle.md_events.specs.Events.Spelled.{role}

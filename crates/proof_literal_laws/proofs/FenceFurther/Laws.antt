@@ -4,7 +4,7 @@ use Rattle.md_engine.specs.declared.tokenizer.held_leaf.HeldLeaf.{HeldLeaf}
 use Rattle.md_engine.specs.declared.tokenizer.held_leaf.HeldLeaf.TheVariants as held_leaf
 use Rattle.proof_frame.specs.RestLine.{rest_line}
 use Rattle.proof_frame.specs.HeldLeaf.{may_continue}
-use Rattle.md_code.specs.Fence.{is_open as is_fence}
+use Rattle.md_literal.specs.Fence.{is_open as is_fence}
 use Rattle.proof_literal_laws.specs.Leaf.FenceFurther.{fence_further}
 use Rattle.proof_literal_laws.proofs.FenceFurther.Cells.{further-adds, further-fits, further-keeps}
 use Rattle.proof_literal_laws.proofs.FenceFurther.Definition.{further-held}

@@ -12,8 +12,8 @@ use Rattle.md_engine.specs.declared.tokenizer.held_leaf.HeldLeaf.{HeldLeaf}
 use Rattle.md_engine.specs.Meaning.{Cell}
 use Rattle.md_meaning.specs.Leaves.{closes}
 use Rattle.md_meaning.specs.Rest.{Rest, indent, run_len, trim_start}
-use Rattle.md_code.specs.Fence.{block_name, chunk_name, fence_name, held_indent, held_marker, sequence_name}
-use Rattle.md_code.specs.FenceLine.{chunk_events, closes_here, closing_end, closing_events, further_inside, spaces}
+use Rattle.md_literal.specs.Fence.{block_name, chunk_name, fence_name, held_indent, held_marker, sequence_name}
+use Rattle.md_literal.specs.FenceLine.{chunk_events, closes_here, closing_end, closing_events, further_inside, spaces}
 use Rattle.md_leaves.specs.CellRuns.{is_end, is_line, run_end, run_rest}
 use Rattle.md_events.specs.Ahead.{begins_white, white_end, white_rest}
 use Rattle.md_events.specs.Events.Nested.{exit, pair}

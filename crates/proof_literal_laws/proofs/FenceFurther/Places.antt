@@ -11,7 +11,7 @@ use Rattle.md_engine.specs.declared.event.Point.{Point}
 use Rattle.md_engine.specs.declared.tokenizer.held_leaf.HeldLeaf.{HeldLeaf}
 use Rattle.md_meaning.specs.Leaves.{closes}
 use Rattle.md_meaning.specs.Rest.{Rest, after_indent, cut_tab, has_small_indent, indent, is_blank, run_len, trim_start}
-use Rattle.md_code.specs.Fence.{held_marker, held_size}
+use Rattle.md_literal.specs.Fence.{held_marker, held_size}
 use Rattle.md_events.proofs.RestLines.{count-none, count-one, indent-trims}
 use Rattle.md_events.specs.Events.Places.{past_text}
 use Rattle.md_events.proofs.RestCells.{Bare, Cut, HasIndent, bare, indent-taken}

@@ -11,8 +11,8 @@ use Rattle.md_engine.specs.declared.tokenizer.held_leaf.HeldLeaf.{HeldLeaf}
 use Rattle.md_meaning.specs.Leaves.{closes}
 use Rattle.md_meaning.specs.Rest.{Rest, indent, line_of, lose, run_len, trim_start}
 use Rattle.md_meaning.specs.Tree.{Line}
-use Rattle.md_code.specs.CodeLine as code
-use Rattle.md_code.specs.Fence.{chunk_name, fence_name, held_indent, held_marker, sequence_name}
+use Rattle.md_literal.specs.CodeLine as code
+use Rattle.md_literal.specs.Fence.{chunk_name, fence_name, held_indent, held_marker, sequence_name}
 use Rattle.md_events.specs.Events.Nested.{enter, exit}
 use Rattle.md_events.specs.Events.Places.{past_text}
 use Rattle.md_events.specs.Events.Spelled.{AsLine, AsMarkers, FenceLeaf, Fenced, MathLeaf, OpenLeaf, Reading, TextRole}

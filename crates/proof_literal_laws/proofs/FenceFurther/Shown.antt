@@ -10,7 +10,7 @@ use Rattle.md_engine.specs.declared.event.Point.{Point}
 use Rattle.md_engine.specs.declared.tokenizer.held_leaf.HeldLeaf.{HeldLeaf}
 use Rattle.md_meaning.specs.Leaves.{closes}
 use Rattle.md_meaning.specs.Rest.{Rest, indent, lose, run_len, trim_start}
-use Rattle.md_code.specs.Fence.{chunk_name, fence_name, held_indent, held_marker, is_open as is_fence}
+use Rattle.md_literal.specs.Fence.{chunk_name, fence_name, held_indent, held_marker, is_open as is_fence}
 use Rattle.md_outline.specs.Outlined.{has_unlisted_name}
 use Rattle.md_outline.specs.Roles.{is_unlisted}
 use Rattle.md_events.specs.Events.Nested.{exit}

@@ -10,14 +10,14 @@ use Rattle.md_engine.specs.declared.tokenizer.held_leaf.HeldLeaf.TheVariants as 
 use Rattle.md_engine.specs.Meaning.{Accepts, Cell, Fails, Here, Outcome, Refuses}
 use Rattle.md_meaning.specs.Leaves.{closes, least_size}
 use Rattle.md_meaning.specs.Rest.{Rest}
-use Rattle.md_code.specs.Fence.{held_indent, held_marker, held_size, may_begin, is_open as is_fence}
-use Rattle.md_code.specs.FenceLine.{closes_here, further_events}
+use Rattle.md_literal.specs.Fence.{held_indent, held_marker, held_size, may_begin, is_open as is_fence}
+use Rattle.md_literal.specs.FenceLine.{closes_here, further_events}
 use Rattle.md_leaves.specs.CellRuns.{after_white_of, is_end, is_line, run_rest, run_size}
-use Rattle.md_code.specs.FenceRule.{before_chunk, before_close, close_at, close_end, closed_or_content, content_at}
-use Rattle.md_code.specs.FenceRule.{further_at, in_chunk, in_close}
-use Rattle.md_code.proofs.FenceCells.{line-all, line-done, run-length}
-use Rattle.md_code.proofs.FenceFurther.{further-end}
-use Rattle.md_code.proofs.FenceWhole.{further-whole}
+use Rattle.md_literal.specs.FenceRule.{before_chunk, before_close, close_at, close_end, closed_or_content, content_at}
+use Rattle.md_literal.specs.FenceRule.{further_at, in_chunk, in_close}
+use Rattle.md_literal.proofs.FenceCells.{line-all, line-done, run-length}
+use Rattle.md_literal.proofs.FenceFurther.{further-end}
+use Rattle.md_literal.proofs.FenceWhole.{further-whole}
 use Rattle.md_events.specs.Ahead.{begins_white, from_ending, line_end, white_rest}
 use Rattle.md_events.specs.Look.{seen_after}
 use Rattle.md_events.specs.Spaces.{IsRest, small_indent}

@@ -13,7 +13,7 @@ use Rattle.md_meaning.specs.Leaves.{after_word, first_word, nonempty, opening}
 use Rattle.md_meaning.specs.Rest.{run_len, trim_start}
 use Rattle.md_meaning.specs.State.{Opening}
 use Rattle.md_meaning.specs.Texts.{first_byte}
-use Rattle.md_code.specs.Fence.{fence_name, sequence_name, block_name}
+use Rattle.md_literal.specs.Fence.{fence_name, sequence_name, block_name}
 use Rattle.md_events.specs.Events.Grammar.{Expression, plain_text, unread_text}
 use Rattle.md_events.specs.Events.Nested.{around}
 use Rattle.md_events.specs.Events.Pieces.{may_cover}

@@ -11,7 +11,7 @@ use Rattle.md_meaning.specs.Leaves.{closes}
 use Rattle.md_meaning.specs.Rest.{Rest, cut_tab, line_of, lose}
 use Rattle.md_meaning.specs.State.{Opening}
 use Rattle.md_meaning.specs.Tree.{Line}
-use Rattle.md_code.specs.Fence.{held_indent, held_marker, is_open as is_fence}
+use Rattle.md_literal.specs.Fence.{held_indent, held_marker, is_open as is_fence}
 use Rattle.md_outline.specs.LinesAllowed.{AtLine, Site}
 use Rattle.md_events.specs.Events.Grammar.{Expression, Nothing, plain_text, unread_text}
 use Rattle.md_events.specs.Events.Places.{past_text}

@@ -14,7 +14,7 @@ use Rattle.md_meaning.specs.State.{OpenFence, Opening}
 use Rattle.md_meaning.specs.Texts.{first_byte}
 use Rattle.md_leaves.specs.Spanned.{has_lines}
 use Rattle.md_leaves.proofs.SpannedLines.{IsBegin, IsFurther, NoLines}
-use Rattle.md_code.specs.Fence.{block_name, held_marker}
+use Rattle.md_literal.specs.Fence.{block_name, held_marker}
 use Rattle.md_leaves.specs.Further.{further_link}
 use Rattle.md_outline.specs.LinesAllowed.{AtEnding, begun_site}
 use Rattle.md_events.specs.Events.Grammar.{Expression, plain_text}

@@ -6,7 +6,7 @@ use Rattle.md_meaning.specs.State.{Opening, fence_block}
 use Rattle.md_meaning.specs.Texts.{first_byte}
 use Rattle.md_meaning.specs.Tree as t
 use Rattle.md_meaning.specs.Tree.{Line}
-use Rattle.md_code.specs.Fence.{block_name}
+use Rattle.md_literal.specs.Fence.{block_name}
 use Rattle.md_outline.specs.LinesAllowed.{HasLines}
 use Rattle.md_events.specs.Events.Endings.{IsLeaf, on_line}
 use Rattle.md_events.specs.Events.Grammar.{Expression, following, after_block, blocks, inside, plain_text}

@@ -12,7 +12,7 @@ use Rattle.md_engine.specs.declared.event.Point.{Point}
 use Rattle.md_meaning.specs.Rest.{Rest, indent, is_white, trim_start}
 use Rattle.md_meaning.specs.State.{Opening}
 use Rattle.md_meaning.specs.Texts.{first_byte}
-use Rattle.md_code.specs.Fence.{block_name, is_open as is_fence}
+use Rattle.md_literal.specs.Fence.{block_name, is_open as is_fence}
 use Rattle.md_outline.specs.LinesAllowed.{AtEnding, begun_site}
 use Rattle.md_events.specs.Events.Grammar.{plain_text}
 use Rattle.md_events.specs.Events.Nested.{around, enter, exit, pair}

@@ -13,9 +13,9 @@ use Rattle.md_engine.specs.declared.tokenizer.held_leaf.HeldLeaf.{HeldLeaf}
 use Rattle.md_meaning.specs.Leaves.{closes, first_word}
 use Rattle.md_meaning.specs.Rest.{Rest, indent, is_white, lose, run_len, trim_start}
 use Rattle.md_meaning.specs.Texts.{first_byte}
-use Rattle.md_code.specs.Fence.{chunk_name, fence_name, held_indent, held_marker, may_begin, sequence_name}
-use Rattle.md_code.proofs.FenceOpened.{marker-may}
-use Rattle.md_code.proofs.FenceParts.{prefix-take}
+use Rattle.md_literal.specs.Fence.{chunk_name, fence_name, held_indent, held_marker, may_begin, sequence_name}
+use Rattle.md_literal.proofs.FenceOpened.{marker-may}
+use Rattle.md_literal.proofs.FenceParts.{prefix-take}
 use Rattle.md_outline.specs.LinesAllowed.{AtEnd, AtEnding, AtInfo, AtLine, AtMeta, InText, LinesAllowed, Site}
 use Rattle.md_outline.specs.LinesAllowed.{begun_site}
 use Rattle.md_outline.proofs.LinesPass.{Passes, passes-append, passes-quiet, are_valid-both}

@@ -5,7 +5,7 @@ use Rattle.md_engine.specs.declared.configuration.ParseOptions.{ParseOptions}
 use Rattle.md_engine.specs.declared.event.Event.{Event}
 use Rattle.md_engine.specs.declared.tokenizer.held_leaf.HeldLeaf.{HeldLeaf}
 use Rattle.md_meaning.specs.State.{Opening}
-use Rattle.md_code.specs.Fence.{block_name, is_open as is_fence}
+use Rattle.md_literal.specs.Fence.{block_name, is_open as is_fence}
 use Rattle.md_outline.specs.LinesAllowed.{Site}
 use Rattle.md_events.specs.Events.Grammar.{Expression}
 use Rattle.md_events.specs.Events.Spelled.{OpenLeaf}

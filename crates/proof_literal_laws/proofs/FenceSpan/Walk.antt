@@ -13,7 +13,7 @@ use Rattle.md_meaning.specs.Leaves.{LeafResult, Finished, Opened, closes}
 use Rattle.md_meaning.specs.Rest.{Rest, line_of, lose}
 use Rattle.md_meaning.specs.State.{OpenFence, Opening, fence_block, then_block}
 use Rattle.md_meaning.specs.Tree.{Line}
-use Rattle.md_code.specs.Fence.{block_name, is_open as is_fence}
+use Rattle.md_literal.specs.Fence.{block_name, is_open as is_fence}
 use Rattle.md_outline.specs.LinesAllowed.{AtEnd, AtLine, Site}
 use Rattle.md_outline.proofs.LinesPass.{ended_site}
 use Rattle.md_events.specs.Events.Grammar.{Expression, Nothing, following, may_end, plain_text}

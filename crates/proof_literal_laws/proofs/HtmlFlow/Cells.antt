@@ -12,8 +12,8 @@ use Rattle.md_meaning.specs.Leaves.{is_text}
 use Rattle.md_meaning.specs.Rest.{Rest}
 use Rattle.md_meaning.proofs.TextsLemmas.{NoEnding}
 use Rattle.md_leaves.specs.Further.{further_link}
-use Rattle.md_html.specs.Html.{is_html, is_open_text}
-use Rattle.md_html.proofs.HtmlLines.{proceeds-cells, keeps-cells, keeps_on-cells, kind-agrees}
+use Rattle.md_literal.specs.Html.{is_html, is_open_text}
+use Rattle.md_literal.proofs.HtmlLines.{proceeds-cells, keeps-cells, keeps_on-cells, kind-agrees}
 use Rattle.md_events.specs.Events.Nested.{around, enter_link, exit, pair}
 use Rattle.md_events.proofs.FeedLines.{Stops}
 use Rattle.md_events.proofs.RestCells.{RestAt, rest_cells}

@@ -17,9 +17,9 @@ use Rattle.md_meaning.specs.Rest.{Rest, has_small_indent, is_blank, line_of, tri
 use Rattle.md_meaning.specs.State.{Leaf, NoLeaf, OpenCode, OpenFence, OpenHtml, OpenParagraph, OpenTable}
 use Rattle.md_meaning.specs.Texts.{first_byte}
 use Rattle.md_meaning.specs.Tree.{Html, Line}
-use Rattle.md_html.specs.Html.{is_html}
-use Rattle.md_html.specs.HtmlLine as rule
-use Rattle.md_html.specs.HtmlRule.{left}
+use Rattle.md_literal.specs.Html.{is_html}
+use Rattle.md_literal.specs.HtmlLine as rule
+use Rattle.md_literal.specs.HtmlRule.{left}
 use Rattle.proof_frame.specs.Context.{context_of}
 use Rattle.proof_frame.specs.HeldLeaf.{kind_of_leaf, left_by, may_continue, takes_lazy}
 use Rattle.proof_literal_laws.specs.Leaf.HtmlFlow.{begins_as, html_further, html_leaf, kind_begun}

@@ -9,11 +9,11 @@ use Rattle.md_engine.specs.declared.tokenizer.held_leaf.HeldLeaf.{HeldLeaf}
 use Rattle.md_engine.specs.Meaning.{Accepts, Cell, Fails, Here, Outcome, Refuses}
 use Rattle.md_meaning.specs.Html.{HtmlKind, html_kind}
 use Rattle.md_leaves.proofs.LeafStart.{rule-refused}
-use Rattle.md_html.specs.Html.{is_html, may_begin}
-use Rattle.md_html.proofs.HtmlWhole as whole
-use Rattle.md_html.proofs.HtmlWhole.{LeavesEnding}
-use Rattle.md_html.specs.HtmlLine.{html_continues, kind_at}
-use Rattle.md_html.specs.HtmlRule.{allowed}
+use Rattle.md_literal.specs.Html.{is_html, may_begin}
+use Rattle.md_literal.proofs.HtmlWhole as whole
+use Rattle.md_literal.proofs.HtmlWhole.{LeavesEnding}
+use Rattle.md_literal.specs.HtmlLine.{html_continues, kind_at}
+use Rattle.md_literal.specs.HtmlRule.{allowed}
 use Rattle.md_events.specs.Ahead.{begins_white, line_bytes, white_rest}
 use Rattle.md_events.specs.Look.{seen_after}
 use Rattle.md_events.specs.Spaces.{IsRest, small_indent}

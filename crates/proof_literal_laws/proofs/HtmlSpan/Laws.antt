@@ -11,7 +11,7 @@ use Rattle.md_meaning.specs.Rest.{Rest, line_of}
 use Rattle.md_leaves.specs.Further.{further_link}
 use Rattle.md_leaves.proofs.SpannedLines.{IsFurther, IsBegin}
 use Rattle.md_outline.specs.LinesAllowed.{begun_site}
-use Rattle.md_html.specs.HtmlLine.{left_by}
+use Rattle.md_literal.specs.HtmlLine.{left_by}
 use Rattle.md_events.specs.Events.Nested.{enter, enter_link, exit}
 use Rattle.md_events.specs.Events.Spelled.{HtmlLeaf, OfHtml, block_of, fresh}
 use Rattle.proof_frame.specs.RestLine.{rest_line}

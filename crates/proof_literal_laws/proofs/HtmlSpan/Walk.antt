@@ -16,9 +16,9 @@ use Rattle.md_meaning.specs.State.{OpenHtml}
 use Rattle.md_meaning.specs.Tree.{Html, Line}
 use Rattle.md_outline.specs.LinesAllowed.{Site}
 use Rattle.md_outline.proofs.LinesPass.{ended_site}
-use Rattle.md_html.specs.Html.{is_html}
-use Rattle.md_html.specs.HtmlLine.{left_of}
-use Rattle.md_html.specs.HtmlRule.{left}
+use Rattle.md_literal.specs.Html.{is_html}
+use Rattle.md_literal.specs.HtmlLine.{left_of}
+use Rattle.md_literal.specs.HtmlRule.{left}
 use Rattle.md_events.specs.Events.Grammar.{Expression, following, may_end}
 use Rattle.md_events.specs.Events.Places.{past_text}
 use Rattle.md_events.specs.Events.Spelled.{HtmlLeaf, OfHtml, OpenLeaf, next_line}

@@ -6,7 +6,7 @@ use Rattle.md_engine.specs.declared.event.Point.{Point}
 use Rattle.md_engine.specs.declared.tokenizer.Line.{Line}
 use Rattle.md_engine.specs.Meaning.{Cell}
 use Rattle.md_meaning.specs.Rest.{Rest}
-use Rattle.md_code.specs.FenceLine.{spaces}
+use Rattle.md_literal.specs.FenceLine.{spaces}
 use Rattle.md_events.specs.Events.Nested.{pair}
 use Rattle.md_events.proofs.FeedLines.{Stops}
 use Rattle.md_events.proofs.RestCells.{RestAt, rest_cells}

@@ -5,8 +5,8 @@ use Rattle.md_engine.specs.declared.event.Name.{Name}
 use Rattle.md_engine.specs.declared.event.Point.{Point}
 use Rattle.md_meaning.specs.Rest.{Rest, cut_tab, line_of, lose}
 use Rattle.md_meaning.specs.Tree.{Line}
-use Rattle.md_code.specs.CodeLine as code
-use Rattle.md_code.proofs.CodeLines.{chunk-reads}
+use Rattle.md_literal.specs.CodeLine as code
+use Rattle.md_literal.proofs.CodeLines.{chunk-reads}
 use Rattle.md_events.specs.Events.Nested.{pair}
 use Rattle.md_events.specs.Events.Places.{past_text}
 use Rattle.md_events.specs.Events.Spelled.{AsLine, OpenLeaf, Reading, Role, TextRole, empty_line, noted, on_leaf, read}

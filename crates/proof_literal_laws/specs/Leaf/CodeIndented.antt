@@ -11,8 +11,8 @@ use Rattle.md_engine.specs.declared.state.code_indented.State.TheVariants as its
 use Rattle.md_engine.specs.declared.state.flow.State.TheVariants as flow
 use Rattle.md_engine.specs.declared.tokenizer.held_leaf.HeldLeaf.{HeldLeaf}
 use Rattle.md_engine.specs.declared.tokenizer.held_leaf.HeldLeaf.TheVariants as held_leaf
-use Rattle.md_code.specs.Code.{may_open}
-use Rattle.md_code.specs.CodeRule as rule
+use Rattle.md_literal.specs.Code.{may_open}
+use Rattle.md_literal.specs.CodeRule as rule
 use Rattle.md_leaves.specs.Further.{further_link}
 use Rattle.md_events.specs.Events.Nested.{enter, enter_link, exit}
 use Rattle.md_events.specs.Events.Places.{past_text}

@@ -15,9 +15,9 @@ use Rattle.md_engine.specs.declared.state.raw_flow.State.TheVariants as its
 use Rattle.md_engine.specs.declared.tokenizer.held_leaf.HeldLeaf.{HeldLeaf}
 use Rattle.md_engine.specs.declared.tokenizer.held_leaf.HeldLeaf.TheVariants as held_leaf
 use Rattle.md_engine.specs.Meaning.{Cell}
-use Rattle.md_code.specs.Fence.{block_name, fence_name, is_on, may_begin, meta_name, sequence_name, string_link}
-use Rattle.md_code.specs.FenceLine.{fence_adds, fence_begins, is_opening, marker_at}
-use Rattle.md_code.specs.FenceRule.{fence_at}
+use Rattle.md_literal.specs.Fence.{block_name, fence_name, is_on, may_begin, meta_name, sequence_name, string_link}
+use Rattle.md_literal.specs.FenceLine.{fence_adds, fence_begins, is_opening, marker_at}
+use Rattle.md_literal.specs.FenceRule.{fence_at}
 use Rattle.md_events.specs.declared.inline.PartKind.TheVariants.{String}
 use Rattle.md_events.specs.Ahead.{white_rest}
 use Rattle.md_events.specs.Events.Inline.{plain_events}

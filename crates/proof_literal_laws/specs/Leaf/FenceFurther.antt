@@ -11,9 +11,10 @@ use Rattle.md_engine.specs.declared.state.raw_flow.State.TheVariants as its
 use Rattle.md_engine.specs.declared.tokenizer.held_leaf.HeldLeaf.{HeldLeaf}
 use Rattle.md_engine.specs.declared.tokenizer.held_leaf.HeldLeaf.TheVariants as held_leaf
 use Rattle.md_engine.specs.Meaning.{Cell}
-use Rattle.md_code.specs.Fence.{block_name, chunk_name, fence_name, held_indent, held_marker, held_size, sequence_name}
-use Rattle.md_code.specs.FenceLine.{fence_continues, further_events}
-use Rattle.md_code.specs.FenceRule.{further_at}
+use Rattle.md_literal.specs.Fence.{block_name, chunk_name, fence_name, held_indent, held_marker, held_size}
+use Rattle.md_literal.specs.Fence.{sequence_name}
+use Rattle.md_literal.specs.FenceLine.{fence_continues, further_events}
+use Rattle.md_literal.specs.FenceRule.{further_at}
 use Rattle.md_leaves.specs.Further.{further_link}
 use Rattle.md_events.specs.Events.Nested.{around, enter_link, exit, pair}
 use Rattle.md_events.specs.Events.Places.{past_text}
@@ -22,7 +23,7 @@ use Rattle.md_meaning.specs.Rest.{Rest, indent, run_len, trim_start}
 use Rattle.md_meaning.specs.State.{Leaf, OpenFence, Opening, fence_block}
 use Rattle.proof_frame.specs.LineColumns.{columns_part, lost_line, part_over, past_columns, rest_of}
 use Rattle.proof_frame.specs.LineLeaf.{LineLeaf}
-use Rattle.md_code.specs.Fence.{is_open as is_fence}
+use Rattle.md_literal.specs.Fence.{is_open as is_fence}
 
 -- What is held of the block.
 

@@ -17,10 +17,10 @@ use Rattle.md_meaning.specs.Rest.{Rest, is_blank, line_of, trim_start}
 use Rattle.md_meaning.specs.State.{Leaf, OpenHtml}
 use Rattle.md_meaning.specs.Tree.{Html}
 use Rattle.md_leaves.specs.Further.{further_link}
-use Rattle.md_html.specs.Html.{ends_in_front, is_html, may_begin}
-use Rattle.md_html.specs.HtmlLine as rule
-use Rattle.md_html.specs.HtmlLine.{left_by, left_of}
-use Rattle.md_html.specs.HtmlRule.{further_at, html_at}
+use Rattle.md_literal.specs.Html.{ends_in_front, is_html, may_begin}
+use Rattle.md_literal.specs.HtmlLine as rule
+use Rattle.md_literal.specs.HtmlLine.{left_by, left_of}
+use Rattle.md_literal.specs.HtmlRule.{further_at, html_at}
 use Rattle.md_events.specs.Events.Nested.{around, enter_link, exit, pair}
 use Rattle.md_events.specs.Events.Places.{past_text}
 use Rattle.proof_frame.specs.Context.{context_of}

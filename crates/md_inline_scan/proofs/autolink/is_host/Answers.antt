@@ -2,7 +2,7 @@ use Rattle.std.proofs.Common.{◌==◌, rules, tests}
 use Rattle.std.proofs.lemmas.Iterator.Search.{all_from_yields_List}
 use Rattle.std.proofs.lemmas.Iterator.Splits.{YieldsList-from_slice_split}
 use Rattle.md_meaning.specs.Ascii.{dot}
-use Rattle.md_inline_grammars.specs.Autolink.{is_host_label}
+use Rattle.md_inlines.specs.Autolink.{is_host_label}
 use Rattle.md_inline_scan.proofs.autolink.is_host.Goals as goal
 
 pub returns : goal.returns

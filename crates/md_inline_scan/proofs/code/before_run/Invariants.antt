@@ -1,5 +1,5 @@
 use Rattle.std.proofs.Common.{◌≡◌, ◌-◌, ◌≤◌, false, length}
-use Rattle.md_inline_grammars.specs.Code as code
+use Rattle.md_inlines.specs.Code as code
 use Rattle.md_inline_scan.proofs.CodeLemmas.{further}
 use Rattle.md_inline_scan.proofs.code.before_run.Given as goal
 

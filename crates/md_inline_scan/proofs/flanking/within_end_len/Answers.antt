@@ -3,7 +3,7 @@ use Rattle.std.proofs.lemmas.Iterator.Adapters.{YieldsList-from_rev_slice}
 use Rattle.std.proofs.lemmas.Iterator.Consumers.{count_from_yields_List}
 use Rattle.std.proofs.lemmas.Iterator.Search.{YieldsList-from_take_while}
 use Rattle.std.proofs.lemmas.List.Folds.{length-prefix_len}
-use Rattle.md_inline_grammars.specs.Characters.{is_within}
+use Rattle.md_inlines.specs.Characters.{is_within}
 use Rattle.md_inline_scan.proofs.flanking.within_end_len.Goals as goal
 
 pub returns-clause-value : goal.returns-clause-value

@@ -1,5 +1,5 @@
 use Rattle.std.proofs.Common.{◌≡◌, ◌∙◌, Some, sym, arith}
-use Rattle.md_inline_grammars.specs.RawHtml.{after_attribute}
+use Rattle.md_inlines.specs.RawHtml.{after_attribute}
 use Rattle.md_inline_scan.proofs.HtmlLemmas.{length-after_attribute, after_attributes-some}
 use Rattle.md_inline_scan.proofs.html.after_attributes.Goals as goal
 

@@ -1,5 +1,5 @@
 use Rattle.std.proofs.Common.{◌≡◌, length}
-use Rattle.md_inline_grammars.specs.RawHtml.{after_attributes}
+use Rattle.md_inlines.specs.RawHtml.{after_attributes}
 use Rattle.md_inline_scan.proofs.html.after_attributes.Given as goal
 
 abbrev pub invariant-loop-more : goal.invariant-loop-more

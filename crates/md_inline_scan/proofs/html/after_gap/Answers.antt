@@ -1,7 +1,7 @@
 use Rattle.std.proofs.Common.{◌≡◌, ap, ◌∙◌, length, arith}
 use Rattle.md_meaning.specs.Bytes.{after_optional}
 use Rattle.md_meaning.specs.Rest.{trim_start}
-use Rattle.md_inline_grammars.specs.Target.{after_gap}
+use Rattle.md_inlines.specs.Target.{after_gap}
 use Rattle.md_inline_scan.proofs.HtmlLemmas.{length-after_gap}
 use Rattle.md_inline_scan.proofs.html.after_gap.Goals as goal
 

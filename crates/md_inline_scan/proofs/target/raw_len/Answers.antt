@@ -1,5 +1,5 @@
 use Rattle.std.proofs.Common.{◌≡◌, ◌-◌, sym, ap, ◌∙◌, length, arith}
-use Rattle.md_inline_grammars.specs.Target.{closed}
+use Rattle.md_inlines.specs.Target.{closed}
 use Rattle.md_inline_scan.proofs.TargetLemmas.{depth-few, raw-fails, raw-goes, raw-over, raw-stops}
 use Rattle.md_inline_scan.proofs.target.raw_len.Goals as goal
 

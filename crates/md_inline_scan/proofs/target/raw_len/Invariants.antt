@@ -1,5 +1,5 @@
 use Rattle.std.proofs.Common.{◌≡◌, ◌-◌, ◌≤◌, false, length}
-use Rattle.md_inline_grammars.specs.Target as target
+use Rattle.md_inlines.specs.Target as target
 use Rattle.md_inline_scan.proofs.CodeLemmas.{further}
 use Rattle.md_inline_scan.proofs.target.raw_len.Given as goal
 

@@ -1,8 +1,8 @@
 use Rattle.std.proofs.Common.{◌≡◌, ◌-◌, ◌∙◌, sym, ap, take, length}
 use Rattle.std.specs.List.{suffix_len}
 use Rattle.md_meaning.specs.Rest.{is_blank}
-use Rattle.reference_grammars.specs.declared.tree.Line.{Line}
-use Rattle.reference_grammars.specs.Trees.{line_meaning, line_meanings}
+use Rattle.reference_tree.specs.declared.tree.Line.{Line}
+use Rattle.reference_tree.specs.Trees.{line_meaning, line_meanings}
 use Rattle.reference_tree.proofs.ParagraphLemmas.{without_suffix-map}
 use Rattle.reference_tree.proofs.close.without_trailing_blank.Goals as goal
 

@@ -1,6 +1,6 @@
 use Rattle.std.proofs.Common.{sym, ◌∙◌, ap}
 use Rattle.md_meaning.specs.Rest as r
-use Rattle.reference_grammars.specs.Rests.{rest_meaning}
+use Rattle.reference_tree.specs.Rests.{rest_meaning}
 use Rattle.reference_tree.proofs.LineLemmas.{quote_taken-some}
 use Rattle.reference_tree.proofs.containers.quote_taken.Goals as goal
 

@@ -1,4 +1,4 @@
-use Rattle.reference_grammars.specs.Trees.{meaning}
+use Rattle.reference_tree.specs.Trees.{meaning}
 use Rattle.reference_tree.specs.Held.{blocks_meaning}
 use Rattle.reference_tree.proofs.LevelLemmas.{left-level}
 use Rattle.reference_tree.proofs.grouped.leave.Goals as goal

@@ -1,7 +1,7 @@
 use Rattle.std.proofs.Common.{◌≡◌, IfOk, refl, sym, ◌∙◌, ap, subst}
 use Rattle.md_meaning.specs.Grouped.{grouped_block}
 use Rattle.md_meaning.specs.Tree as t
-use Rattle.reference_grammars.specs.Trees.{meaning}
+use Rattle.reference_tree.specs.Trees.{meaning}
 use Rattle.reference_tree.specs.Groups.{OpensTo, forward, left_to_group, with_next}
 use Rattle.reference_tree.proofs.LevelLemmas.{other-level}
 use Rattle.reference_tree.proofs.grouped.take.Goals as goal

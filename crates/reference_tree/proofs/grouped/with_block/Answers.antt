@@ -1,6 +1,6 @@
 use Rattle.std.proofs.Common.{◌≡◌, true, ◌∙◌, ap}
 use Rattle.md_meaning.specs.Grouped.{with_front}
-use Rattle.reference_grammars.specs.Trees.{meaning, meanings}
+use Rattle.reference_tree.specs.Trees.{meaning, meanings}
 use Rattle.reference_tree.specs.Held.{blocks_meaning}
 use Rattle.reference_tree.specs.Groups.{then_blocks, with_items, then_groups}
 use Rattle.reference_tree.proofs.GroupLemmas.{is_other, other-block, then_blocks-push, flushed-other}

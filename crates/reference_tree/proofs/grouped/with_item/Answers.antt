@@ -1,6 +1,6 @@
 use Rattle.std.proofs.Common.{[], ◌∷◌, ◌++◌, sym, ◌∙◌, ap, eqb-true}
 use Rattle.md_meaning.specs.Grouped.{with_item}
-use Rattle.reference_grammars.specs.Trees.{meaning, meanings}
+use Rattle.reference_tree.specs.Trees.{meaning, meanings}
 use Rattle.reference_tree.specs.Held.{blocks_meaning}
 use Rattle.reference_tree.specs.Groups.{then_blocks, with_items, then_groups}
 use Rattle.reference_tree.proofs.GroupLemmas.{with_items-push, flushed-item}

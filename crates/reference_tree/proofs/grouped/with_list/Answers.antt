@@ -1,6 +1,6 @@
 use Rattle.std.proofs.Common.{◌≡◌, sym, ◌∙◌, ap, eqb-true}
 use Rattle.md_meaning.specs.Tree as t
-use Rattle.reference_grammars.specs.Trees.{meanings}
+use Rattle.reference_tree.specs.Trees.{meanings}
 use Rattle.reference_tree.specs.Held.{blocks_meaning}
 use Rattle.reference_tree.specs.Groups.{then_blocks, with_items, then_groups}
 use Rattle.reference_tree.proofs.GroupLemmas.{meanings-append, with_items-list, then_blocks-push, flushed-list}

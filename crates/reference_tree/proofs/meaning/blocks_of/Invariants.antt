@@ -2,7 +2,7 @@ use Rattle.std.proofs.Common.{◌≡◌, take}
 use Rattle.md_meaning.specs.State.{At}
 use Rattle.md_meaning.specs.Step.{spot_of, steps}
 use Rattle.md_meaning.specs.Tree.{End}
-use Rattle.reference_grammars.specs.Rests.{rest_meanings}
+use Rattle.reference_tree.specs.Rests.{rest_meanings}
 use Rattle.reference_tree.specs.States.{path_meaning}
 use Rattle.reference_tree.proofs.meaning.blocks_of.Given as goal
 

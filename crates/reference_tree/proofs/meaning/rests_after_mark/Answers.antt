@@ -1,7 +1,7 @@
 use Rattle.std.proofs.Common.{◌≡◌, true, cond, drop, IfOk, sym, ◌∙◌, ap, subst}
 use Rattle.md_meaning.specs.Lines.{lines_of}
 use Rattle.md_meaning.specs.Preamble.{has_mark, rests_at}
-use Rattle.reference_grammars.specs.Rests.{rest_meanings}
+use Rattle.reference_tree.specs.Rests.{rest_meanings}
 use Rattle.reference_tree.proofs.meaning.rests_after_mark.Goals as goal
 
 pub returns-then-has_mark : goal.returns-then-has_mark

@@ -3,8 +3,8 @@ use Rattle.md_meaning.specs.Grouped.{grouped}
 use Rattle.md_meaning.specs.Lines.{lines_of}
 use Rattle.md_meaning.specs.Preamble.{without_mark, first_column, rests_at}
 use Rattle.md_meaning.specs.Tree.{Blocks}
-use Rattle.reference_grammars.specs.Fronts.{IsEnd}
-use Rattle.reference_grammars.specs.Rests.{rest_meanings}
+use Rattle.reference_tree.specs.Fronts.{IsEnd}
+use Rattle.reference_tree.specs.Rests.{rest_meanings}
 use Rattle.reference_tree.specs.Held.{blocks_meaning}
 use Rattle.reference_tree.proofs.BodyLemmas.{body, Reads, tree-some, tree-none}
 use Rattle.reference_tree.proofs.meaning.tree.Goals as goal

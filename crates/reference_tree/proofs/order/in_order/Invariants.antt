@@ -1,5 +1,5 @@
 use Rattle.std.proofs.Common.{◌≡◌, ◌++◌}
-use Rattle.reference_grammars.specs.Trees.{meanings}
+use Rattle.reference_tree.specs.Trees.{meanings}
 use Rattle.reference_tree.specs.Placed.{places, placed, left}
 use Rattle.reference_tree.proofs.order.in_order.Given as goal
 

@@ -1,5 +1,5 @@
 use Rattle.std.proofs.Common.{refl, sym, ap}
-use Rattle.reference_grammars.specs.Trees.{meanings}
+use Rattle.reference_tree.specs.Trees.{meanings}
 use Rattle.reference_tree.proofs.PlacedLemmas.{visited, visited-none}
 use Rattle.reference_tree.proofs.order.visit.Goals as goal
 

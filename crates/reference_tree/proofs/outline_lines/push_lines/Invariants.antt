@@ -1,6 +1,6 @@
 use Rattle.std.proofs.Common.{◌≡◌, ◌++◌, drop}
 use Rattle.md_meaning.specs.Outline.{line_entries}
-use Rattle.reference_grammars.specs.Trees.{line_meanings}
+use Rattle.reference_tree.specs.Trees.{line_meanings}
 use Rattle.md_meaning.specs.Outline.{entries_of}
 use Rattle.reference_tree.proofs.outline_lines.push_lines.Given as goal
 

@@ -1,6 +1,6 @@
 use Rattle.std.proofs.Common.{◌≡◌, ◌++◌, map, drop}
 use Rattle.md_meaning.specs.Outline.{rows_entries}
-use Rattle.reference_grammars.specs.Trees.{slices}
+use Rattle.reference_tree.specs.Trees.{slices}
 use Rattle.md_meaning.specs.Outline.{entries_of}
 use Rattle.reference_tree.proofs.outline_lines.push_rows.Given as goal
 

@@ -1,6 +1,6 @@
 use Rattle.std.proofs.Common.{◌≡◌, ◌++◌, drop}
 use Rattle.md_meaning.specs.Outline.{entries}
-use Rattle.reference_grammars.specs.Trees.{slices}
+use Rattle.reference_tree.specs.Trees.{slices}
 use Rattle.md_meaning.specs.Outline.{entries_of}
 use Rattle.reference_tree.proofs.outline_lines.push_texts.Given as goal
 

@@ -1,6 +1,6 @@
 use Rattle.std.proofs.Common.{◌≡◌, take}
 use Rattle.md_meaning.specs.State as state
-use Rattle.reference_grammars.specs.Trees.{slices}
+use Rattle.reference_tree.specs.Trees.{slices}
 use Rattle.reference_tree.specs.States.{kept_meanings}
 use Rattle.reference_tree.proofs.paragraph.texts.Given as goal
 

@@ -1,7 +1,7 @@
 use Rattle.std.proofs.Common.{length, ◌∙◌, ap}
 use Rattle.md_meaning.specs.Step.{fresh_line}
-use Rattle.reference_grammars.specs.Trees.{meanings}
-use Rattle.reference_grammars.specs.Rests.{rest_meaning}
+use Rattle.reference_tree.specs.Trees.{meanings}
+use Rattle.reference_tree.specs.Rests.{rest_meaning}
 use Rattle.reference_tree.specs.States.{spot_meaning}
 use Rattle.reference_tree.proofs.PathLemmas.{entered-path}
 use Rattle.reference_tree.proofs.step.enter.Goals as goal

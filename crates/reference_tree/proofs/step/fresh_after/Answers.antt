@@ -1,7 +1,7 @@
 use Rattle.std.proofs.Common.{take, ◌∙◌, ap}
 use Rattle.md_meaning.specs.State.{At}
 use Rattle.md_meaning.specs.Step.{fresh_line}
-use Rattle.reference_grammars.specs.Rests.{rest_meaning}
+use Rattle.reference_tree.specs.Rests.{rest_meaning}
 use Rattle.reference_tree.specs.States.{spot_meaning, within}
 use Rattle.reference_tree.proofs.step.fresh_after.Goals as goal
 

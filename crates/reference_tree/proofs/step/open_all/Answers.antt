@@ -1,6 +1,6 @@
 use Rattle.std.proofs.Common.{◌-◌, length, sym, ◌∙◌, ap, arith}
-use Rattle.reference_grammars.specs.Rests.{rest_meaning}
-use Rattle.reference_grammars.specs.Trees.{meanings}
+use Rattle.reference_tree.specs.Rests.{rest_meaning}
+use Rattle.reference_tree.specs.Trees.{meanings}
 use Rattle.reference_tree.specs.States.{taken_option, within}
 use Rattle.reference_tree.proofs.PathLemmas.{opened-none, opened-next, opened-end}
 use Rattle.reference_tree.proofs.step.open_all.Goals as goal

@@ -1,6 +1,6 @@
 use Rattle.std.proofs.Common.{◌≡◌, ◌-◌, length}
 use Rattle.md_meaning.specs.Step.{opened}
-use Rattle.reference_grammars.specs.Rests.{rest_meaning}
+use Rattle.reference_tree.specs.Rests.{rest_meaning}
 use Rattle.reference_tree.specs.States.{within}
 use Rattle.reference_tree.proofs.step.open_all.Given as goal
 

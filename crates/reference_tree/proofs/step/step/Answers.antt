@@ -1,7 +1,7 @@
 use Rattle.std.proofs.Common.{◌≡◌, ◌∙◌, IfOk, ap, arith, subst, sym, take}
 use Rattle.std.proofs.lemmas.List.{length-set}
 use Rattle.md_meaning.specs.State.{Path, At}
-use Rattle.reference_grammars.specs.Rests.{rest_meaning}
+use Rattle.reference_tree.specs.Rests.{rest_meaning}
 use Rattle.reference_tree.specs.States.{path_meaning, spot_meaning, taken_option, within}
 use Rattle.reference_tree.proofs.StepLemmas.{continued-next, continued-not, continued-all}
 use Rattle.reference_tree.proofs.step.step.Goals as goal

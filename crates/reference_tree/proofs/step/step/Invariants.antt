@@ -1,7 +1,7 @@
 use Rattle.std.proofs.Common.{◌≡◌, length, take, drop}
 use Rattle.md_meaning.specs.State.{At}
 use Rattle.md_meaning.specs.Step as definition
-use Rattle.reference_grammars.specs.Rests.{rest_meaning}
+use Rattle.reference_tree.specs.Rests.{rest_meaning}
 use Rattle.reference_tree.specs.States.{spot_meaning, path_meaning, within}
 use Rattle.reference_tree.proofs.step.step.Given as goal
 

@@ -1,6 +1,6 @@
 use Rattle.std.proofs.Common.{◌≡◌, IfOk, sym, ◌∙◌, ap, subst}
 use Rattle.md_meaning.specs.State.{Path}
-use Rattle.reference_grammars.specs.Rests.{rest_meaning}
+use Rattle.reference_tree.specs.Rests.{rest_meaning}
 use Rattle.reference_tree.specs.States.{spot_meaning, taken_meaning, taken_option, path_meaning}
 use Rattle.reference_tree.proofs.StepLemmas.{stops-opened, stops-lazy, stops-fresh}
 use Rattle.reference_tree.proofs.step.stopped.Goals as goal

@@ -3,8 +3,8 @@ use Rattle.std.proofs.lemmas.List.{map-append, length-map}
 use Rattle.std.specs.Option.{option_map}
 use Rattle.md_meaning.specs.State as state
 use Rattle.md_meaning.specs.Step as definition
-use Rattle.reference_grammars.specs.Rests.{rest_meaning}
-use Rattle.reference_grammars.specs.Trees.{slices}
+use Rattle.reference_tree.specs.Rests.{rest_meaning}
+use Rattle.reference_tree.specs.Trees.{slices}
 use Rattle.reference_tree.specs.Held.{blocks_meaning}
 use Rattle.reference_tree.specs.States.{kept_meaning, kept_meanings, spot_meaning}
 use Rattle.reference_tree.proofs.HeadLemmas.{spot_with, table_at-head, table_at-empty}

@@ -1,5 +1,0 @@
-use Rattle.std.proofs.Common.{rules}
-use Rattle.md_code.proofs.fence_parts.held_size.Goals as goal
-
-pub returns-in-Fence : goal.returns-in-Fence
-returns-in-Fence c = search rules

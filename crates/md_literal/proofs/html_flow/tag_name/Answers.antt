@@ -1,0 +1,19 @@
+use Rattle.std.proofs.Common.{arith, rules}
+use Rattle.std.proofs.lemmas.Grind.{common_steps}
+use Rattle.md_engine.specs.declared.state.html_flow.State.TheVariants as its
+use Rattle.md_literal.proofs.HtmlMeaning.{html_rule}
+use Rattle.md_literal.proofs.html_flow.tag_name.Goals as goal
+
+pub returns-in-Some : goal.returns-in-Some
+returns-in-Some c = record {
+  to = first_of (search rules, grind (arith, common_steps));
+  world = first_of (search rules, grind (arith, common_steps));
+  rule = html_rule its.TagName _ _ _ (grind (arith, common_steps)) (grind (arith, common_steps));
+}
+
+pub returns-in-None : goal.returns-in-None
+returns-in-None c = record {
+  to = first_of (search rules, grind (arith, common_steps));
+  world = first_of (search rules, grind (arith, common_steps));
+  rule = html_rule its.TagName _ _ _ (grind (arith, common_steps)) (grind (arith, common_steps));
+}

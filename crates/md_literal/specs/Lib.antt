@@ -1,0 +1,10 @@
+pub mod Code
+pub mod Fence
+pub mod CodeRule
+pub mod CodeLine
+pub mod FenceLine
+pub mod FenceParts
+pub mod FenceRule
+pub mod Html
+pub mod HtmlRule
+pub mod HtmlLine

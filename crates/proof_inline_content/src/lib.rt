@@ -1,2 +1,0 @@
-// That the inline definition gives each text a forest over all of it.
-#![tactic(auto)]

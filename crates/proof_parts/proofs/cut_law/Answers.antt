@@ -1,5 +1,0 @@
-use Rattle.proof_parts.proofs.TextParts.{text-parts}
-use Rattle.proof_parts.proofs.cut_law.Goals as goal
-
-pub returns : goal.returns
-returns c = text-parts c.args.options.now c.args.bytes.now c.args.following.now

@@ -1,2 +1,0 @@
-pub mod GfmTable
-pub mod HeadsRead

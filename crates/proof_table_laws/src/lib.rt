@@ -1,2 +1,0 @@
-// The values and laws of tables.
-#![tactic(auto)]

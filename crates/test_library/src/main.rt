@@ -1,0 +1,227 @@
+// The program `test_library`: it makes one call of the library between two requests for memory of known sizes, so that
+// a test can refuse the requests of that call alone (`scripts/refuse_memory.sh`). Its argument names the call:
+//
+//     parse, parse_with, outline, outline_part
+//                                   it prints the outline of the text
+//     quote, item, footnote         it prints the text in that container
+//     run                           it prints what `printing::run_blocks::run` prints of its standard input
+//     states                        the states that take no memory, of those that can be called on their own;
+//                                   it prints what they answer
+//
+// A call that is refused memory has status 3 and prints nothing.
+//
+// Tests of the library and of the programs that no row can have: runs over inputs and outputs that fail or that signals
+// interrupt, arguments of a system, outlines by parts, the plain program on many containers, and what the layer of
+// references marks. A crate with tests is proved twice, so they are here and not beside what they test.
+#![tactic(auto)]
+
+ghost use Rattle.markdown_blocks.specs.Parsed.{IsSmall, IsWithoutMdx};
+
+#[cfg(test)]
+mod deep;
+#[cfg(test)]
+mod marks;
+#[cfg(test)]
+mod parts;
+#[cfg(test)]
+mod runs;
+#[cfg(test)]
+mod signals;
+mod states;
+#[cfg(test)]
+mod streams;
+#[cfg(test)]
+mod system;
+
+use examples_layer::References;
+use markdown_blocks::configuration::ParseOptions;
+use markdown_blocks::event::Event;
+use markdown_blocks::message::Message;
+use markdown_blocks::outline::{outline, outline_part};
+use markdown_blocks::parser::{ParseState, parse, parse_with};
+use markdown_blocks::wrap::{footnote, item, quote};
+use md_program::body::{Body, MOST, Outlined};
+use md_program::print::print;
+use md_program::system::arguments;
+use printing::blocks::Blocks;
+use printing::run_blocks::run;
+use states::states;
+use std::alloc::{AllocError, Global};
+use std::io::{Read, Write};
+use std::process::ExitCode;
+
+/// A text with a definition in a quote, a table in an item, headings of both kinds, a footnote definition, and a
+/// reference over two lines.
+const TEXT: &str =
+    "> [a\n> b]: c\n\n- x | y\n  --|--\n  1 | 2\n\n# h\n\ni\n=\n\n[^f]: g\n\n[A\nB] j";
+
+/// The size of the request before a call.
+pub const BEFORE: usize = 42_421;
+
+/// The size of the request after it.
+pub const AFTER: usize = 42_423;
+
+/// Asks for so many bytes. It is not inlined, so that no compiler leaves it out.
+#[inline(never)]
+pub fn mark(alloc: Global, size: usize) -> Result<Vec<u8>, AllocError> {
+    Vec::with_capacity(alloc, size)
+}
+
+/// What is printed of a parse.
+fn printed<'a>(alloc: Global, events: &[Event], state: ParseState<'a>) -> Result<String, Message> {
+    let lines = outline(alloc, events, &state)?;
+    let outlined = Outlined {
+        lines,
+        definitions: state.definitions,
+        footnotes: state.gfm_footnote_definitions,
+    };
+    print(alloc, &outlined)
+}
+
+/// Parses the text and prints its outline; only the parse is between the marks.
+fn parsed(alloc: Global, text: &str, options: &ParseOptions) -> Result<String, Message>
+    requires size { IsSmall text.now }
+    requires built { IsWithoutMdx options.now }
+{
+    let _before = mark(alloc, BEFORE)?;
+    let parsed = parse(alloc, text, options);
+    let _after = mark(alloc, AFTER)?;
+    let (events, state) = parsed?;
+    printed(alloc, &events, state)
+}
+
+/// The same with an inline layer.
+fn parsed_with(alloc: Global, text: &str, options: &ParseOptions) -> Result<String, Message>
+    requires size { IsSmall text.now }
+    requires built { IsWithoutMdx options.now }
+{
+    let _before = mark(alloc, BEFORE)?;
+    let parsed = parse_with(alloc, &References, text, options);
+    let _after = mark(alloc, AFTER)?;
+    let (events, state) = parsed?;
+    printed(alloc, &events, state)
+}
+
+/// The same, with only the outline between the marks.
+fn outlined(alloc: Global, text: &str, options: &ParseOptions) -> Result<String, Message>
+    requires size { IsSmall text.now }
+    requires built { IsWithoutMdx options.now }
+{
+    let (events, state) = parse(alloc, text, options)?;
+    let _before = mark(alloc, BEFORE)?;
+    let lines = outline(alloc, &events, &state);
+    let _after = mark(alloc, AFTER)?;
+    let lines = lines?;
+    let outlined = Outlined {
+        lines,
+        definitions: state.definitions,
+        footnotes: state.gfm_footnote_definitions,
+    };
+    print(alloc, &outlined)
+}
+
+/// The same, with only the first part of the outline between the marks, which is all of it.
+fn outlined_part(alloc: Global, text: &str, options: &ParseOptions) -> Result<String, Message>
+    requires size { IsSmall text.now }
+    requires built { IsWithoutMdx options.now }
+{
+    let (events, state) = parse(alloc, text, options)?;
+    let _before = mark(alloc, BEFORE)?;
+    let part = outline_part(alloc, &events, &state);
+    let _after = mark(alloc, AFTER)?;
+    let part = part?;
+    let outlined = Outlined {
+        lines: part.lines,
+        definitions: state.definitions,
+        footnotes: state.gfm_footnote_definitions,
+    };
+    print(alloc, &outlined)
+}
+
+/// The text in a quote.
+fn in_quote(alloc: Global, text: &str, options: &ParseOptions) -> Result<String, Message>
+    requires { IsSmall text.now }
+{
+    let _before = mark(alloc, BEFORE)?;
+    let wrapped = quote(alloc, text, options);
+    let _after = mark(alloc, AFTER)?;
+    wrapped
+}
+
+/// The text in an item.
+fn in_item(alloc: Global, text: &str, options: &ParseOptions) -> Result<String, Message>
+    requires { IsSmall text.now }
+{
+    let _before = mark(alloc, BEFORE)?;
+    let wrapped = item(alloc, text, options);
+    let _after = mark(alloc, AFTER)?;
+    wrapped
+}
+
+/// The text in a footnote definition.
+fn in_footnote(alloc: Global, text: &str, options: &ParseOptions) -> Result<String, Message>
+    requires { IsSmall text.now }
+{
+    let _before = mark(alloc, BEFORE)?;
+    let wrapped = footnote(alloc, text, options);
+    let _after = mark(alloc, AFTER)?;
+    wrapped
+}
+
+/// What is printed of a call, or nothing of a word that is none.
+fn answer(alloc: Global, word: &str) -> Result<String, Message> {
+    let text = TEXT;
+    if text.len() > MOST {
+        return Err(Message);
+    }
+    let options = Blocks::built(ParseOptions::GFM);
+    match word {
+        "parse" => parsed(alloc, text, &options),
+        "parse_with" => parsed_with(alloc, text, &options),
+        "outline" => outlined(alloc, text, &options),
+        "outline_part" => outlined_part(alloc, text, &options),
+        "quote" => in_quote(alloc, text, &options),
+        "item" => in_item(alloc, text, &options),
+        "footnote" => in_footnote(alloc, text, &options),
+        "states" => states(alloc, &options),
+        _ => Ok(String::new(alloc)),
+    }
+}
+
+/// The status of a run of `blocks` with the set `gfm`.
+fn ran<R: Read, W: Write, E: Write>(
+    alloc: Global,
+    input: &mut R,
+    output: &mut W,
+    errors: &mut E,
+) -> Result<u8, AllocError> {
+    let mut args = Vec::new(alloc);
+    args.push(String::from_str(alloc, "gfm")?)?;
+    let _before = mark(alloc, BEFORE)?;
+    let status = run(alloc, args.as_slice(), input, output, errors);
+    let _after = mark(alloc, AFTER)?;
+    Ok(status)
+}
+
+/// The status of want of memory.
+const REFUSED: u8 = 3;
+
+fn main(rt: HostRuntime) -> ExitCode {
+    let Ok(args) = arguments(&rt) else {
+        return ExitCode::from(REFUSED);
+    };
+    let word = args.first().map_or("parse", |word| word.as_str());
+    if word == "run" {
+        let ran = ran(
+            rt.alloc(),
+            &mut rt.stdin(),
+            &mut rt.stdout(),
+            &mut rt.stderr(),
+        );
+        return ExitCode::from(ran.unwrap_or(REFUSED));
+    }
+    match answer(rt.alloc(), word) {
+        Ok(text) if rt.print(&text).is_ok() => ExitCode::SUCCESS,
+        _ => ExitCode::from(REFUSED),
+    }
+}

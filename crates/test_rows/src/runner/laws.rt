@@ -1,0 +1,172 @@
+// Tries the laws of nesting: a text that is quoted, or indented as an item or as a footnote definition, has the same
+// outline one container deeper, and the same labels, after that of the footnote. Its events nest and tile, too. Where
+// alerts are on and the first line of a text is the marker of one, its quote is an alert of the lines after.
+
+use crate::case::CaseError;
+use crate::runner::events::try_events;
+use crate::runner::report::Report;
+use crate::runner::rows::printed;
+use crate::runner::wraps::{footnoted, itemised, quoted};
+use md_engine::configuration::Constructs;
+use md_program::body::Body;
+use std::alloc::{AllocError, Global};
+
+/// Whether the laws speak of a text: it is not empty and has neither a tab nor a byte order mark at its start.
+fn is_plain(text: &str) -> bool {
+    !text.is_empty() && !text.starts_with('\u{feff}') && !text.contains('\t')
+}
+
+/// Whether the list law and the footnote law speak of a plain text: its first line is not empty and does not begin with
+/// a space.
+fn begins_with_text(text: &str) -> bool {
+    !text.starts_with(' ') && !text.starts_with('\n') && !text.starts_with('\r')
+}
+
+/// The markers of alerts, each with what is printed of a quote that begins with it.
+const ALERTS: [(&str, &str); 5] = [
+    ("[!note]", "alert note\n"),
+    ("[!tip]", "alert tip\n"),
+    ("[!important]", "alert important\n"),
+    ("[!warning]", "alert warning\n"),
+    ("[!caution]", "alert caution\n"),
+];
+
+/// The first line of a text, without its ending.
+fn first_line(text: &str) -> &str {
+    let count = text
+        .bytes()
+        .take_while(|byte| *byte != b'\n' && *byte != b'\r')
+        .count();
+    text.get(..count).unwrap_or("")
+}
+
+/// The lines of a text after the first one.
+fn after_first_line(text: &str) -> &str {
+    let rest = text.get(first_line(text).len()..).unwrap_or("");
+    match rest.strip_prefix("\r\n") {
+        Some(lines) => lines,
+        None => rest.get(1..).unwrap_or(""),
+    }
+}
+
+/// What is printed of an alert, if the first line of a plain text is its marker, after a small indent.
+fn alert_of(text: &str, constructs: &Constructs) -> Option<&'static str> {
+    let line = first_line(text);
+    let indent = line.bytes().take_while(|byte| *byte == b' ').count();
+    if !constructs.alerts || indent > 3 && constructs.code_indented {
+        return None;
+    }
+    let rest = line.get(indent..).unwrap_or("");
+    for (marker, head) in ALERTS {
+        let front = rest.get(..marker.len()).unwrap_or("");
+        let following = rest.get(marker.len()..).unwrap_or("");
+        if front.eq_ignore_ascii_case(marker) && following.bytes().all(|byte| byte == b' ') {
+            return Some(head);
+        }
+    }
+    None
+}
+
+/// What is printed for a text, with the outline below the lines `heads`.
+fn below(alloc: Global, output: &str, heads: &str, indent: &str) -> Result<String, AllocError> {
+    let mut deeper = String::from_str(alloc, heads)?;
+    let mut in_outline = true;
+    for line in output.lines() {
+        in_outline = in_outline && !line.is_empty();
+        if in_outline {
+            deeper.push_str(indent)?;
+        }
+        deeper.push_str(line)?;
+        deeper.push('\n')?;
+    }
+    Ok(deeper)
+}
+
+/// What is printed, with the label `x` before those of the other footnote definitions.
+fn with_footnote(alloc: Global, output: &str) -> Result<String, AllocError> {
+    let mut all = String::new(alloc);
+    for line in output.lines() {
+        match line.strip_prefix("footnotes ") {
+            Some(count) => {
+                let others: u64 = count.parse().unwrap_or(0);
+                write!(all, "footnotes {}\n= x\n", others.saturating_add(1))?;
+            }
+            None => {
+                all.push_str(line)?;
+                all.push('\n')?;
+            }
+        }
+    }
+    Ok(all)
+}
+
+/// Tries whether a text in a quote gives this outline below this head. The events of the quote are tried too.
+fn try_quote<B: Body>(
+    alloc: Global,
+    text: &str,
+    head: &str,
+    output: &str,
+    constructs: &Constructs,
+    report: &mut Report,
+) -> Result<(), CaseError> {
+    let quote = quoted(alloc, text)?;
+    let got = printed::<B>(alloc, quote.as_str(), constructs)?;
+    let wanted = below(alloc, output, head, "  ")?;
+    report.add(
+        "the quote law",
+        quote.as_str(),
+        wanted.as_str(),
+        got.as_str(),
+    )?;
+    try_events::<B>(alloc, quote.as_str(), constructs, report)
+}
+
+/// Tries the laws on a text with constructs that the body has, as far as they speak of it: not of frontmatter either.
+/// The events of the text in its container are tried with each.
+pub fn try_laws<B: Body>(
+    alloc: Global,
+    text: &str,
+    constructs: &Constructs,
+    report: &mut Report,
+) -> Result<(), CaseError> {
+    if !is_plain(text) {
+        return Ok(());
+    }
+    let output = printed::<B>(alloc, text, constructs)?;
+    if output.as_str().starts_with("frontmatter ") {
+        return Ok(());
+    }
+    if constructs.block_quote {
+        match alert_of(text, constructs) {
+            None => try_quote::<B>(alloc, text, "quote\n", output.as_str(), constructs, report)?,
+            Some(head) => {
+                let rest = after_first_line(text);
+                let output = printed::<B>(alloc, rest, constructs)?;
+                if !rest.starts_with('\u{feff}') && !output.as_str().starts_with("frontmatter ") {
+                    try_quote::<B>(alloc, text, head, output.as_str(), constructs, report)?;
+                }
+            }
+        }
+    }
+    if constructs.list_item && begins_with_text(text) {
+        let item = itemised(alloc, text)?;
+        let got = printed::<B>(alloc, item.as_str(), constructs)?;
+        let wanted = below(alloc, output.as_str(), "list +\n  item\n", "    ")?;
+        report.add("the list law", item.as_str(), wanted.as_str(), got.as_str())?;
+        try_events::<B>(alloc, item.as_str(), constructs, report)?;
+    }
+    if constructs.gfm_footnote_definition && begins_with_text(text) {
+        let footnote = footnoted(alloc, text)?;
+        let got = printed::<B>(alloc, footnote.as_str(), constructs)?;
+        let deeper = below(alloc, output.as_str(), "footnote\n  label | x\n", "  ")?;
+        let wanted = with_footnote(alloc, deeper.as_str())?;
+        report.add(
+            "the footnote law",
+            footnote.as_str(),
+            wanted.as_str(),
+            got.as_str(),
+        )?;
+        try_events::<B>(alloc, footnote.as_str(), constructs, report)?;
+    }
+    Ok(())
+}
