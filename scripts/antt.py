@@ -1,10 +1,13 @@
 """Runs definitions of specs/ that are of first order, without their types. It proves nothing: that is for `rt check`.
 
 A number is an int, a list a list, a record a dict, a constructor with what it is of a tuple."""
+import contextlib
 import functools
 import os
 import re
+import string
 import sys
+import unicodedata
 
 sys.setrecursionlimit(100000)
 
@@ -147,6 +150,8 @@ class Parser:
 
     def pattern_with(self):
         first = self.pattern()
+        if first[0] == "name" and self.peek() not in ENDS and self.peek() != "∷":
+            first = ("made", first[1], [])
         while first[0] == "made" and self.peek() not in ENDS and self.peek() != "∷":
             first[2].append(self.pattern())
         if self.peek() == "∷":
@@ -210,9 +215,40 @@ GIVEN = {name: sized(size, function) for name, size, function in [
     ("nat_le", 2, lambda a, b: a <= b), ("nat_lt", 2, lambda a, b: a < b), ("nat_eq", 2, lambda a, b: a == b),
     ("not", 1, lambda a: not a), ("suc", 1, lambda a: a + 1), ("codes", 1, lambda s: list(s.encode())),
     ("str_eq_ignore_ascii_case", 2, lambda a, b: bytes(a).lower() == bytes(b).lower()),
-    ("is_ascii_alphabetic", 1, lambda b: bytes([b]).isalpha()),
-    ("is_ascii_alphanumeric", 1, lambda b: bytes([b]).isalnum()),
+    ("is_ascii_alphabetic", 1, lambda b: chr(b) in string.ascii_letters),
+    ("is_ascii_alphanumeric", 1, lambda b: chr(b) in string.ascii_letters + string.digits),
+    ("is_ascii_digit", 1, lambda b: chr(b) in string.digits),
+    ("is_ascii_hexdigit", 1, lambda b: chr(b) in string.hexdigits),
+    ("is_ascii_punctuation", 1, lambda b: chr(b) in string.punctuation),
+    ("is_ascii_whitespace", 1, lambda b: b in (9, 10, 12, 13, 32)),
+    ("slice_split", 2, lambda f, xs: split(f, xs)), ("slice_range", 3, lambda xs, i, j: xs[i:j]),
+    ("slice_index", 2, lambda xs, i: xs[i]), ("bytes_eq", 2, lambda a, b: a == b),
+    ("slice_get", 2, lambda xs, i: ("Some", xs[i]) if i < len(xs) else ("None",)),
+    ("is_utf8", 1, lambda xs: characters(xs) is not None), ("chars", 1, lambda xs: list(map(ord, characters(xs) or ""))),
+    ("general_category", 1, lambda c: unicodedata.category(chr(c))),
+    ("general_category_eq", 2, lambda a, b: a == CATEGORIES[b[0]]),
+    ("in_group", 2, lambda group, a: a[0] == CATEGORIES[group[0]]),
 ]}
+# the categories of Unicode that definitions name
+CATEGORIES = {"SpaceSeparator": "Zs", "Punctuation": "P", "Symbol": "S"}
+
+
+def split(test, items):
+    parts = [[]]
+    for item in items:
+        if call(test, item):
+            parts.append([])
+        else:
+            parts[-1].append(item)
+    return parts
+
+
+def characters(code):
+    """The text that these bytes are, if they are UTF-8."""
+    try:
+        return bytes(code).decode("utf8")
+    except UnicodeDecodeError:
+        return None
 
 
 def lambda_not(test):
@@ -230,12 +266,20 @@ class Module:
 
     def __init__(self, library, text):
         self.library, self.clauses, self.imported, self.called, self.known = library, {}, {}, {}, {}
+        # what a `data` has, and of what is in a `module` with parameters these parameters and the names there
+        self.makers, self.blocks, self.statements = set(), {}, {}
         lines = [line for line in text.split("\n") if line.strip() and not line.lstrip().startswith("--")]
         for item in joined(lines):
             words = item.split()
             if "use" in words[:2]:
                 self.add_import(" ".join(words[words.index("use") + 1:]))
-            elif not re.match(r"(abbrev|unfoldable|unfolding|pub|data|record|mod|mutual)\b|\S+ :", item):
+            elif words[:2] == ["module", "_"]:
+                self.add_block(item)
+            elif "data" in words[:2]:
+                self.makers.update(re.findall(r"^  (\w+) :", item, re.M))
+            elif re.match(r"\w+ :", item):
+                self.statements[words[0]] = item
+            elif not is_no_clause(item):
                 self.clauses.setdefault(words[0], []).append(clause(item))
 
     def add_import(self, text):
@@ -248,6 +292,26 @@ class Module:
             path = text.split(" as ")
             self.called[path[-1].split(".")[-1]] = path[0]
 
+    def add_block(self, item):
+        head, body = re.split(r"\bwhere\n", item, maxsplit=1)
+        parameters = " ".join(re.findall(r"\(([\w ]+) :", head)).split()
+        names = set()
+        for inner in joined([line[2:] for line in body.split("\n")]):
+            if not is_no_clause(inner):
+                name = inner.split()[0]
+                patterns, term, local = clause(inner)
+                names.add(name)
+                self.blocks[name] = (parameters, names)
+                self.clauses.setdefault(name, []).append(([("name", p) for p in parameters] + patterns, term, local))
+
+    def makes(self, name):
+        """Whether this is the name of what a `data` has."""
+        if name in self.imported:
+            path, own = self.imported[name]
+            other = self.library.module(path)
+            return other is not None and other.makes(own)
+        return name in self.makers
+
     def value(self, name):
         if name not in self.known:
             self.known[name] = self.found(name)
@@ -255,30 +319,68 @@ class Module:
 
     def found(self, name):
         if name in self.clauses:
-            return defined(self, name, self.clauses[name], {})
+            clauses = [([self.resolved(p) for p in patterns], term, local) for patterns, term, local in self.clauses[name]]
+            return defined(self, name, clauses, {})
+        if name in self.makers:
+            return (name,)
         if name in self.imported:
             path, own = self.imported[name]
+            if own in self.library.given:
+                return self.library.given[own]
             other = self.library.module(path)
-            if other and (own in other.clauses or own in other.imported):
+            if other and (own in other.clauses or own in other.imported or own in other.makers):
                 return other.value(own)
             name = own
         if name in ("true", "false", "zero"):
             return {"true": True, "false": False, "zero": 0}[name]
         return (name,) if name[0].isupper() else GIVEN[name]
 
+    def resolved(self, pattern):
+        """A pattern whose names are told from what a `data` has."""
+        if pattern[0] == "name" and self.makes(pattern[1]):
+            return ("made", pattern[1], [])
+        return ("made", pattern[1], [self.resolved(p) for p in pattern[2]]) if pattern[0] == "made" else pattern
+
 
 class Library:
-    """The modules of a folder crates/, with other folders in the place of some crates."""
+    """The modules of a folder crates/, where some names that are imported have a given value."""
 
-    def __init__(self, crates, moved=None):
-        self.crates, self.moved, self.modules = crates, moved or {}, {}
+    def __init__(self, crates, given=None):
+        self.crates, self.given, self.modules = crates, given or {}, {}
+
+    def file(self, path):
+        return os.path.join(self.crates, *path.split(".")[1:]) + ".antt"
 
     def module(self, path):
         if path not in self.modules:
-            crate, *rest = path.split(".")[1:]
-            file = os.path.join(self.moved.get(crate, os.path.join(self.crates, crate)), *rest) + ".antt"
+            file = self.file(path)
             self.modules[path] = Module(self, open(file, encoding="utf8").read()) if os.path.exists(file) else None
         return self.modules[path]
+
+    def forget(self):
+        """Forgets all values, but not the modules."""
+        for module in filter(None, self.modules.values()):
+            module.known.clear()
+
+    @contextlib.contextmanager
+    def instead(self, path, text):
+        """A module has another text."""
+        before = self.module(path)
+        self.forget()
+        self.modules[path] = Module(self, text)
+        yield
+        self.modules[path] = before
+        self.forget()
+
+    def sides(self, path, name):
+        """The two sides of an equation that a file states."""
+        module = self.module(path)
+        left, right = module.statements[name].split(" :", 1)[1].split(" ≡", 1)
+        return [value_of(Parser(side).expression(), {}, module) for side in (left, right)]
+
+
+def is_no_clause(item):
+    return re.match(r"(abbrev|unfoldable|unfolding|pub|data|record|mod|mutual)\b|\S+ :", item)
 
 
 def joined(lines):
@@ -315,6 +417,8 @@ def defined(module, name, clauses, outer):
         for patterns, body, local in clauses:
             names = dict(outer)
             if all(matches(p, v, names) for p, v in zip(patterns, given)):
+                if name in module.blocks and not outer:
+                    names[None] = module.blocks[name]
                 for own in local:
                     names[own] = defined(module, own, local[own], names)
                 return value_of(body, names, module)
@@ -326,7 +430,11 @@ def defined(module, name, clauses, outer):
 def value_of(term, names, module):
     kind = term[0]
     if kind == "name":
-        return names[term[1]] if term[1] in names else module.value(term[1])
+        if term[1] in names:
+            return names[term[1]]
+        parameters, inside = names.get(None, ([], ()))
+        value = module.value(term[1])
+        return call(value, *[names[p] for p in parameters]) if term[1] in inside else value
     if kind == "value":
         return term[1]
     if kind == "application":

@@ -7,7 +7,8 @@ It counts the same of what calls of first states and of flow promise of the rest
 `constructs::call`, `flow::start`, `document::flow_inside` and `document::containers_after`), with what is not among the
 lines of `parse`; and the same of what reading content makes of the lines of a text (`texts` of `read_texts`). It fails
 where there is more than the limits below, or where one of these definitions names a rule by cells, a transition or a
-value."""
+value. And it counts what a reader has to believe of the inline definition (`content`), with what is not among the lines
+of `parse`."""
 import os
 import re
 import sys
@@ -25,6 +26,9 @@ MOST_OF_CALLS, MOST_NEW = 1650, 620
 # what reading content makes of the lines of a text
 TEXTS = ("Rattle.markdown_blocks.specs.TextsRead", "AreTextsRead")
 MOST_OF_TEXTS = 100
+# what the inline content of a text is
+INLINES = ("Rattle.md_inlines.specs.Content", "content")
+MOST_OF_INLINES = 900
 # where rules by cells, transitions, schemes and values of constructs are from
 RULE = re.compile(r"Rattle\.(md_\w+\.specs\.(\w+Rule|Registry|Flow|Document|States|Scheme|Transition)|"
                   r"proof_\w+\.specs\.(LineLeaf|ContainerRules|Rule|Leaf\.(?!Paragraph)\w+|Containers\.\w+))\.")
@@ -45,7 +49,7 @@ class Module:
         for line in text.split("\n"):
             if not line.strip() or line.lstrip().startswith("--"):
                 continue
-            if re.match(r"(abbrev )?mutual$", line):
+            if re.match(r"(abbrev )?mutual$|module _ .* where$", line):
                 depth = 2
                 continue
             if not line.startswith(" "):
@@ -146,6 +150,10 @@ def main():
     texts, own = lines_of(of_texts), lines_of(of_texts - all_of)
     print(f"{TEXTS[1]}: {texts} lines in {len({path for path, _ in of_texts})} files, of which {own} are not among those "
           f"of {STATEMENT[1]}")
+    of_inlines = unfolded(*INLINES)
+    inlines, own_inlines = lines_of(of_inlines), lines_of(of_inlines - all_of)
+    print(f"{INLINES[1]}: {inlines} lines in {len({path for path, _ in of_inlines})} files, of which {own_inlines} are "
+          f"not among those of {STATEMENT[1]}")
     of_rules = {f"{path}.{name}" for path, name in of_calls | of_texts if RULE.match(f"{path}.") and path != LINES}
     for name in sorted(of_rules):
         print("believed: a clause of lines unfolds to", name)
@@ -153,7 +161,7 @@ def main():
     for name in sorted(of_run):
         print("believed: a definition names", name)
     sys.exit(lines > MOST or rest > MOST_ELSE or calls > MOST_OF_CALLS or new > MOST_NEW or own > MOST_OF_TEXTS
-             or bool(of_run | of_rules))
+             or own_inlines > MOST_OF_INLINES or bool(of_run | of_rules))
 
 
 main()

@@ -17,6 +17,8 @@ TOP = os.path.dirname(os.path.dirname(os.path.abspath(__file__)))
 PAGES = [
     ("must-fail edits", "docs/proofs.md", r"([\d,]+) are \*\*edits\*\*"),
     ("texts", "README.md", r"the ([\d,]+) files of `examples/texts`"),
+    ("texts of the inline definition", "docs/definitions-inlines.md", r"([\d,]+) rows, texts with their forests"),
+    ("wrong inline definitions", "docs/definitions-inlines.md", r"([\d,]+) wrong definitions of one line"),
 ]
 
 

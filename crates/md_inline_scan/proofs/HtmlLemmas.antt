@@ -1,6 +1,6 @@
 -- How much is left after each part of a tag.
-use Rattle.std.proofs.Common.{◌≡◌, ℕ, zero, suc, ◌<◌, ◌≤◌, Bool, true, false, ◌&&◌, List, [], ◌∷◌, length, drop}
-use Rattle.std.proofs.Common.{Option, Some, None, refl, ap, sym, ◌∙◌, arith}
+use Rattle.std.proofs.Common.{◌≡◌, ℕ, ◌<◌, ◌≤◌, Bool, true, false, ◌&&◌, List, [], ◌∷◌, length, drop}
+use Rattle.std.proofs.Common.{Some, None, refl, ap, sym, ◌∙◌, arith}
 use Rattle.std.specs.Prelude.{if◌then◌else◌, ◌||◌, ◌==◌}
 use Rattle.md_meaning.specs.Bytes.{after, after_optional, begins}
 use Rattle.md_meaning.specs.Html.{after_next, begins_attribute, is_attribute_byte}
@@ -10,8 +10,9 @@ use Rattle.md_meaning.proofs.HtmlLemmas.{length-after, length-after-lt, length-a
 use Rattle.std.proofs.lemmas.List.{length-drop}
 use Rattle.md_inlines.specs.Characters.{is_gap}
 use Rattle.md_inlines.specs.RawHtml.{after_assignment, after_attribute, after_attributes, after_value}
-use Rattle.md_inlines.specs.RawHtml.{is_value_byte, repeated}
+use Rattle.md_inlines.specs.RawHtml.{is_value_byte}
 use Rattle.md_inlines.specs.Target.{after_gap}
+use Rattle.md_inline_scan.proofs.RepeatedLemmas.{repeated-some}
 
 pub length-after_gap : (xs : List ℕ) → length (after_gap xs) ≤ length xs
 length-after_gap xs =
@@ -87,46 +88,6 @@ length-after_attribute xs ys e = go (begins is_gap xs) (begins begins_attribute 
         )
     go true false p f = cc
     go false t p f = cc
-
--- What is taken off shortens the rest: then as many times suffice as there are bytes.
-module _ (step : List ℕ → Option (List ℕ))
-    (shorter : (xs ys : List ℕ) → step xs ≡ Some ys → length ys < length xs) where
-  abbrev then_more : ℕ → List ℕ → Option (List ℕ) → List ℕ
-  then_more n rest None = rest
-  then_more n rest (Some more) = repeated step n more
-
-  repeated-suc : (n : ℕ) (xs : List ℕ) (first : Option (List ℕ)) → step xs ≡ first →
-      repeated step (suc n) xs ≡ then_more n xs first
-  repeated-suc n xs None e = rw (e, repeated) refl
-  repeated-suc n xs (Some more) e = rw (e, repeated) refl
-
-  repeated-enough : (n m : ℕ) (xs : List ℕ) → length xs ≤ n → length xs ≤ m → repeated step n xs ≡ repeated step m xs
-  repeated-enough zero zero xs h k = refl
-  repeated-enough zero (suc m) xs h k = go (step xs) refl
-    where
-      go : (first : Option (List ℕ)) → step xs ≡ first → xs ≡ repeated step (suc m) xs
-      go None e = rw (repeated-suc m xs None e) refl
-      go (Some more) e = absurd (omega (arith, shorter xs more e))
-  repeated-enough (suc n) zero xs h k = go (step xs) refl
-    where
-      go : (first : Option (List ℕ)) → step xs ≡ first → repeated step (suc n) xs ≡ xs
-      go None e = rw (repeated-suc n xs None e) refl
-      go (Some more) e = absurd (omega (arith, shorter xs more e))
-  repeated-enough (suc n) (suc m) xs h k = go (repeated-enough n m) (step xs) refl
-    where
-      go : ((more : List ℕ) → length more ≤ n → length more ≤ m → repeated step n more ≡ repeated step m more) →
-          (first : Option (List ℕ)) → step xs ≡ first → repeated step (suc n) xs ≡ repeated step (suc m) xs
-      go fewer None e = rw (repeated-suc n xs None e, repeated-suc m xs None e) refl
-      go fewer (Some more) e =
-          rw (repeated-suc n xs (Some more) e, repeated-suc m xs (Some more) e)
-          (fewer more (omega (arith, shorter xs more e)) (omega (arith, shorter xs more e)))
-
-  repeated-some : (xs more : List ℕ) → step xs ≡ Some more →
-      repeated step (length xs) xs ≡ repeated step (length more) more
-  repeated-some [] more e = let less : length more < 0 = shorter [] more e in absurd (omega arith)
-  repeated-some (b ∷ bs) more e =
-      repeated-suc (length bs) (b ∷ bs) (Some more) e
-      ∙ repeated-enough (length bs) (length more) more (omega (arith, shorter (b ∷ bs) more e)) (omega arith)
 
 pub after_attributes-some : (xs more : List ℕ) → after_attribute xs ≡ Some more →
     after_attributes xs ≡ after_attributes more

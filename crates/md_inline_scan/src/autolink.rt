@@ -26,7 +26,7 @@ pub fn uri_len(text: &[u8]) -> Option<usize>
 }
 
 /// Whether this byte is last.
-fn ends_with(byte: u8, bytes: &[u8]) -> bool
+pub(crate) fn ends_with(byte: u8, bytes: &[u8]) -> bool
     ensures { result ≡ lines.begins_with byte (reverse bytes.now) }
 {
     match bytes.last() {

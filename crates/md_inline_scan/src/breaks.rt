@@ -1,8 +1,8 @@
 // Line breaks (CommonMark 6.7, 6.8).
-ghost use Rattle.std.specs.Prelude.{◌≡◌, ◌≤◌, ◌==◌, length};
-ghost use Rattle.std.specs.List.{suffix_len};
+ghost use Rattle.std.specs.Prelude.{◌≡◌, ◌≤◌, length};
 ghost use Rattle.md_inlines.specs.Breaks as breaks;
 
+use crate::class::{Class, class_end_len};
 use md_scan::ahead::begins_with;
 use md_scan::bytes::white_len;
 
@@ -37,21 +37,13 @@ pub fn trailing_len(text: &[u8]) -> usize
     }
 }
 
-/// How many spaces are at the end.
-fn space_end_len(text: &[u8]) -> usize
-    ensures value { result ≡ suffix_len (λ b. b == 32) text.now }
-    ensures bound { result ≤ length text.now }
-{
-    text.iter().rev().take_while(|byte| **byte == b' ').count()
-}
-
 /// How many of these spaces and tabs make a hard break.
 #[tactic(auto, unfolding(md_inlines::specs::Breaks::break_len))]
 pub fn break_len(text: &[u8]) -> usize
     ensures { result ≡ breaks.break_len text.now }
 {
     let (white, rest) = text.split_at(trailing_len(text));
-    let spaces = space_end_len(white);
+    let spaces = class_end_len(Class::Space, white);
     if 2 <= spaces && begins_with(b'\n', rest) {
         spaces
     } else {

@@ -1,7 +1,7 @@
 // Classes of bytes, and how many bytes of a class come first.
 ghost use Rattle.std.specs.Prelude.{◌≡◌, ◌≤◌, length};
 ghost use Rattle.std.specs.Char.{is_ascii_alphabetic};
-ghost use Rattle.std.specs.List.{prefix_len};
+ghost use Rattle.std.specs.List.{prefix_len, suffix_len};
 ghost use Rattle.md_meaning.specs.Bytes.{begins};
 ghost use Rattle.md_inline_scan.specs.Classes as classes;
 
@@ -27,6 +27,18 @@ pub enum Class {
     Attribute,
     /// The value of an attribute, without quotes.
     Value,
+    Space,
+    Dot,
+    /// A byte of a character after its first one.
+    Within,
+    /// What follows the domain of an address without angle brackets.
+    Path,
+    /// An e-mail address without angle brackets, before its `@`.
+    BareLocal,
+    /// An e-mail address without angle brackets, after its `@`.
+    BareHost,
+    /// What may follow an address of XMPP, after its `/`.
+    XmppResource,
 }
 
 fn is_scheme_byte(byte: u8) -> bool
@@ -66,6 +78,24 @@ fn is_attribute_byte(byte: u8) -> bool
     byte.is_ascii_alphanumeric() || byte == b'_' || byte == b'.' || byte == b':' || byte == b'-'
 }
 
+fn is_path_byte(byte: u8) -> bool
+    ensures { result ≡ classes.is_in Class.Path byte }
+{
+    !byte.is_ascii_whitespace() && byte != b'<'
+}
+
+fn is_bare_local_byte(byte: u8) -> bool
+    ensures { result ≡ classes.is_in Class.BareLocal byte }
+{
+    byte.is_ascii_alphanumeric() || byte == b'.' || byte == b'-' || byte == b'_' || byte == b'+'
+}
+
+fn is_bare_host_byte(byte: u8) -> bool
+    ensures { result ≡ classes.is_in Class.BareHost byte }
+{
+    byte.is_ascii_alphanumeric() || byte == b'-' || byte == b'_' || byte == b'.'
+}
+
 /// Whether a byte is of a class.
 pub fn is_in(class: Class, byte: u8) -> bool
     ensures { result ≡ classes.is_in class byte }
@@ -81,6 +111,13 @@ pub fn is_in(class: Class, byte: u8) -> bool
         Class::Tag => byte.is_ascii_alphanumeric() || byte == b'-',
         Class::Attribute => is_attribute_byte(byte),
         Class::Value => is_value_byte(byte),
+        Class::Space => byte == b' ',
+        Class::Dot => byte == b'.',
+        Class::Within => 128 <= byte && byte < 192,
+        Class::Path => is_path_byte(byte),
+        Class::BareLocal => is_bare_local_byte(byte),
+        Class::BareHost => is_bare_host_byte(byte),
+        Class::XmppResource => byte.is_ascii_alphanumeric() || byte == b'@' || byte == b'.',
     }
 }
 
@@ -90,6 +127,17 @@ pub fn class_len(class: Class, text: &[u8]) -> usize
     ensures bound { result ≤ length text.now }
 {
     text.iter().take_while(|byte| is_in(class, **byte)).count()
+}
+
+/// How many bytes of a class come last.
+pub fn class_end_len(class: Class, text: &[u8]) -> usize
+    ensures value { result ≡ suffix_len (classes.is_in class) text.now }
+    ensures bound { result ≤ length text.now }
+{
+    text.iter()
+        .rev()
+        .take_while(|byte| is_in(class, **byte))
+        .count()
 }
 
 /// Whether a letter of ASCII comes first.

@@ -1,15 +1,15 @@
 // Delimiter runs, and the characters beside them (CommonMark 2.1, 6.2).
-ghost use Rattle.std.specs.Prelude.{◌≡◌, ◌≤◌, length, slice_get};
-ghost use Rattle.std.specs.List.{prefix_len, suffix_len};
+ghost use Rattle.std.specs.Prelude.{◌≡◌};
 ghost use Rattle.md_inlines.specs.Characters as characters;
 ghost use Rattle.md_inlines.specs.Flanking as flanking;
 
+use crate::class::{Class, class_end_len, class_len};
 use md_inlines::{Run, Side};
 use md_scan::bytes::run_len;
 use ucd_category::{GeneralCategory, GeneralCategoryGroup};
 
 /// Whether this is Unicode whitespace.
-fn is_whitespace(c: char) -> bool
+pub(crate) fn is_whitespace(c: char) -> bool
     ensures { result ≡ characters.is_whitespace c }
 {
     if c < '\u{80}' {
@@ -20,7 +20,7 @@ fn is_whitespace(c: char) -> bool
 }
 
 /// Whether this is Unicode punctuation.
-fn is_punctuation(c: char) -> bool
+pub(crate) fn is_punctuation(c: char) -> bool
     ensures { result ≡ characters.is_punctuation c }
 {
     if c < '\u{80}' {
@@ -46,7 +46,7 @@ fn side_of(c: char) -> Side
 }
 
 /// The character that these bytes spell, if they are UTF-8.
-fn character(bytes: &[u8]) -> Option<char>
+pub(crate) fn character(bytes: &[u8]) -> Option<char>
     ensures { result ≡ characters.character bytes.now }
 {
     match str::from_utf8(bytes) {
@@ -71,37 +71,12 @@ fn side(bytes: &[u8]) -> Side
     }
 }
 
-fn is_within(byte: u8) -> bool
-    ensures { result ≡ characters.is_within byte }
-{
-    128 <= byte && byte < 192
-}
-
-/// How many bytes come first that are not the first of a character.
-fn within_len(text: &[u8]) -> usize
-    ensures value { result ≡ prefix_len characters.is_within text.now }
-    ensures bound { result ≤ length text.now }
-{
-    text.iter().take_while(|byte| is_within(**byte)).count()
-}
-
-/// How many bytes come last that are not the first of a character.
-fn within_end_len(text: &[u8]) -> usize
-    ensures value { result ≡ suffix_len characters.is_within text.now }
-    ensures bound { result ≤ length text.now }
-{
-    text.iter()
-        .rev()
-        .take_while(|byte| is_within(**byte))
-        .count()
-}
-
 /// The bytes of the first character.
-fn first_bytes(text: &[u8]) -> &[u8]
+pub(crate) fn first_bytes(text: &[u8]) -> &[u8]
     ensures { result.now ≡ characters.first_bytes text.now }
 {
     match text {
-        [_, rest @ ..] => text.split_at(1 + within_len(rest)).0,
+        [_, rest @ ..] => text.split_at(1 + class_len(Class::Within, rest)).0,
         [] => text,
     }
 }
@@ -110,7 +85,7 @@ fn first_bytes(text: &[u8]) -> &[u8]
 fn last_bytes(text: &[u8]) -> &[u8]
     ensures { result.now ≡ characters.last_bytes text.now }
 {
-    let within = within_end_len(text);
+    let within = class_end_len(Class::Within, text);
     text.split_at((text.len() - within).saturating_sub(1)).1
 }
 

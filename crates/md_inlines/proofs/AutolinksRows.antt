@@ -75,3 +75,19 @@ row_bare = refl
 row_escaped_email : markdown (codes "<a" ++ 92 ∷ codes "+@b.c>") ≡ text 2 (escaped (text 5 end))
 unfolding grammars
 row_escaped_email = refl
+
+row_digit_first : markdown (codes "<1a:b>") ≡ text 6 end
+unfolding grammars
+row_digit_first = refl
+
+row_email_label : markdown (codes "<a@aaaaaaaaaaaaaaaaaaaaaaaaaaaaaaaaaaaaaaaaaaaaaaaaaaaaaaaaaaaaaaa>") ≡ mail 65 end
+unfolding grammars
+row_email_label = refl
+
+row_email_long_label : markdown (codes "<a@aaaaaaaaaaaaaaaaaaaaaaaaaaaaaaaaaaaaaaaaaaaaaaaaaaaaaaaaaaaaaaaa>") ≡ text 68 end
+unfolding grammars
+row_email_long_label = refl
+
+row_email_last_hyphen : markdown (codes "<a@b->") ≡ text 6 end
+unfolding grammars
+row_email_last_hyphen = refl

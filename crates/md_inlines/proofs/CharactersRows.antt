@@ -39,3 +39,11 @@ row_cyrillic = refl
 row_quotes : markdown (208 ∷ (176 ∷ (codes "*" ++ 194 ∷ 171 ∷ 208 ∷ 177 ∷ 194 ∷ 187 ∷ codes "*"))) ≡ text 10 end
 unfolding grammars characters
 row_quotes = refl
+
+row_form_feed : markdown (codes "*" ++ 12 ∷ codes "a*") ≡ text 4 end
+unfolding grammars characters
+row_form_feed = refl
+
+row_no_utf_8 : markdown (codes "a*" ++ 192 ∷ 128 ∷ codes "b*") ≡ text 1 (em (text 3 end) end)
+unfolding grammars characters
+row_no_utf_8 = refl

@@ -97,3 +97,39 @@ row_math_unclosed = refl
 row_math_backslash : extended (codes "$a" ++ 92 ∷ codes "$") ≡ math_span 1 2 end
 unfolding grammars literals
 row_math_backslash = refl
+
+-- where one tilde and one dollar are no marks
+abbrev without_single : List ℕ → Forest
+without_single text = forest
+    (record { constructs = ALL; gfm_strikethrough_single_tilde = false; math_text_single_dollar = false })
+    (bytes_eq (codes "bar")) (bytes_eq (codes "a")) false text
+
+row_single_tilde : without_single (codes "~a~") ≡ text 3 end
+unfolding grammars literals
+row_single_tilde = refl
+
+row_two_tildes : without_single (codes "~~a~~") ≡ strike 2 (text 1 end) end
+unfolding grammars literals
+row_two_tildes = refl
+
+row_single_dollar : without_single (codes "$a$") ≡ text 3 end
+unfolding grammars literals
+row_single_dollar = refl
+
+row_two_dollars : without_single (codes "$$a$$") ≡ math_span 2 1 end
+unfolding grammars literals
+row_two_dollars = refl
+
+-- where each label is that of a footnote
+abbrev with_footnotes : List ℕ → Forest
+with_footnotes text = forest
+    (record { constructs = ALL; gfm_strikethrough_single_tilde = true; math_text_single_dollar = true })
+    (λ label. false) (λ label. true) false text
+
+row_call_other : with_footnotes (codes "[^b]") ≡ call_of 1 end
+unfolding grammars literals
+row_call_other = refl
+
+row_call_other_space : with_footnotes (codes "[^a b]") ≡ text 6 end
+unfolding grammars literals
+row_call_other_space = refl

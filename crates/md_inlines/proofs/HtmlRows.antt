@@ -119,3 +119,7 @@ row_escape_in_value = refl
 row_backtick_value : markdown (codes "<a b=`c`>") ≡ text 5 (code_span 1 1 (text 1 end))
 unfolding grammars
 row_backtick_value = refl
+
+row_bare_value_line : markdown (codes "<a b=c" ++ 10 ∷ codes "1>") ≡ text 9 end
+unfolding grammars
+row_bare_value_line = refl

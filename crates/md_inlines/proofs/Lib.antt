@@ -1,5 +1,6 @@
 pub mod Computing
 mod Shapes
+mod TextRows
 mod EscapesRows
 mod NumbersRows
 mod NamesRows

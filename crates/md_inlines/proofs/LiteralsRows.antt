@@ -173,3 +173,35 @@ row_email_after_bracket = refl
 row_email_in_code : extended (codes "`a@b.c`") ≡ code_span 1 5 end
 unfolding grammars literals characters
 row_email_in_code = refl
+
+row_after_underscore : extended (codes "_www.a.b") ≡ text 1 (literal n.GfmAutolinkLiteralWww 7 end)
+unfolding grammars literals characters
+row_after_underscore = refl
+
+row_empty_segment : extended (codes "www.a..b") ≡ text 8 end
+unfolding grammars literals characters
+row_empty_segment = refl
+
+row_underscore_last_but_one : extended (codes "www.a_b.c") ≡ text 9 end
+unfolding grammars literals characters
+row_underscore_last_but_one = refl
+
+row_last_tilde : extended (codes "www.a.b/c~") ≡ literal n.GfmAutolinkLiteralWww 9 (text 1 end)
+unfolding grammars literals characters
+row_last_tilde = refl
+
+row_last_quote : extended (codes "www.a.b/c'") ≡ literal n.GfmAutolinkLiteralWww 10 end
+unfolding grammars literals characters
+row_last_quote = refl
+
+row_open_bracket : extended (codes "[www.a.b") ≡ text 8 end
+unfolding grammars literals characters
+row_open_bracket = refl
+
+row_open_bracket_space : extended (codes "[a www.b.c") ≡ text 10 end
+unfolding grammars literals characters
+row_open_bracket_space = refl
+
+row_email_in_link_text : extended (codes "[x a@b.c](d)") ≡ link_of (text 7 end) (leads 0 false (text 1 end) 0 end) end
+unfolding grammars literals characters
+row_email_in_link_text = refl

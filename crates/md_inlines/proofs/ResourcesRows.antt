@@ -5,8 +5,8 @@ use Rattle.md_inline_events.specs.Forest.{Forest}
 use Rattle.md_inlines.proofs.Computing.{grammars}
 use Rattle.md_inlines.specs.declared.TheConstants.InlineConstructs.{COMMONMARK}
 use Rattle.md_inlines.specs.Content.{forest}
-use Rattle.md_inlines.proofs.Shapes.{code_span, em, end, escaped, image_of, leads, link_of, raw_html, strong, text}
-use Rattle.md_inlines.proofs.Shapes.{titled, uri}
+use Rattle.md_inlines.proofs.Shapes.{char_ref, code_span, em, end, escaped, image_of, leads, link_of, raw_html, strong}
+use Rattle.md_inlines.proofs.Shapes.{text, titled, uri}
 
 abbrev none : List ℕ → Bool
 none label = false
@@ -217,3 +217,13 @@ row_depth_33 : markdown (codes "[a](((((((((((((((((((((((((((((((((()))))))))))
     text 71 end
 unfolding grammars
 row_depth_33 = refl
+
+row_reference_in_destination : markdown (codes "[a](b&#35;)") ≡
+    link_of (text 1 end) (leads 0 false (text 1 (char_ref 1 2 end)) 0 end) end
+unfolding grammars
+row_reference_in_destination = refl
+
+row_reference_in_title : markdown (codes "[a](b '&#35;')") ≡
+    link_of (text 1 end) (leads 0 false (text 1 end) 1 (titled (char_ref 1 2 end) 0)) end
+unfolding grammars
+row_reference_in_title = refl

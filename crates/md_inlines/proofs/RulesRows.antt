@@ -89,3 +89,7 @@ row_call_label = refl
 row_shortcut_call : extended (codes "[bar][^a]") ≡ text 5 (call_of 1 end)
 unfolding grammars literals
 row_shortcut_call = refl
+
+row_size_before : extended (codes "a***b**c**") ≡ text 1 (em (strong (text 1 end) (text 1 end)) (text 1 end))
+unfolding grammars literals
+row_size_before = refl

@@ -1,5 +1,5 @@
 -- Rows that the check computes: checks of task items (GFM 5.3), in the first paragraph of an item.
-use Rattle.std.proofs.Common.{◌≡◌, ℕ, true, List, ◌∷◌, ◌++◌, refl}
+use Rattle.std.proofs.Common.{◌≡◌, ℕ, true, false, List, ◌∷◌, ◌++◌, refl}
 use Rattle.std.specs.Prelude.{codes}
 use Rattle.std.specs.Str.{bytes_eq}
 use Rattle.md_engine.specs.declared.event.Name.TheVariants as n
@@ -46,3 +46,17 @@ row_not_first = refl
 row_other : first_of_item (codes "[y] a") ≡ text 5 end
 unfolding grammars literals
 row_other = refl
+
+row_tab : first_of_item (91 ∷ 9 ∷ codes "] a") ≡ text 5 end
+unfolding grammars literals
+row_tab = refl
+
+-- in any other paragraph
+abbrev further : List ℕ → Forest
+further text = forest
+    (record { constructs = ALL; gfm_strikethrough_single_tilde = true; math_text_single_dollar = true })
+    (bytes_eq (codes "bar")) (bytes_eq (codes "a")) false text
+
+row_further : further (codes "[x] a") ≡ text 5 end
+unfolding grammars literals
+row_further = refl

@@ -11,9 +11,10 @@ use Rattle.md_inlines.specs.Autolink as autolink
 use Rattle.md_inlines.specs.Breaks.{break_len, is_break_escape, trailing_len}
 use Rattle.md_inlines.specs.Code.{raw_at}
 use Rattle.md_inlines.specs.Escape.{ampersand, is_escape, reference_at}
-use Rattle.md_inlines.specs.Literal.{Literal, literal_at}
+use Rattle.md_inlines.specs.Literal.{literal_at}
 use Rattle.md_inlines.specs.RawHtml.{after_html}
 use Rattle.md_inlines.specs.declared.InlineOptions.{InlineOptions}
+use Rattle.md_inlines.specs.declared.Literal.{Literal}
 use Rattle.md_inlines.specs.declared.LiteralKind.{LiteralKind}
 use Rattle.md_inlines.specs.declared.LiteralKind.TheVariants as literal
 use Rattle.md_inlines.specs.declared.Raw.{Raw}

@@ -12,13 +12,9 @@ use Rattle.md_inlines.specs.Autolink.{at_sign}
 use Rattle.md_inlines.specs.Characters.{character, first_bytes, is_punctuation, is_whitespace, is_within}
 use Rattle.md_inlines.specs.Escape.{ampersand, semicolon}
 use Rattle.md_inlines.specs.RawHtml.{repeated}
+use Rattle.md_inlines.specs.declared.Literal.{Literal}
 use Rattle.md_inlines.specs.declared.LiteralKind.{LiteralKind}
 use Rattle.md_inlines.specs.declared.LiteralKind.TheVariants as literal
-
--- A literal: what it is, and how many bytes it has.
-pub record Literal : Type 0 where
-  pub kind : LiteralKind
-  pub len : ℕ
 
 -- where one may begin: first on a line, after whitespace, or after `*`, `_`, `~` or `(`
 abbrev pub may_follow : List ℕ → Bool

@@ -150,3 +150,10 @@ pub enum LiteralKind {
     Mailto,
     Xmpp,
 }
+
+/// An address without angle brackets: what it is, and how many bytes it has.
+#[derive(Clone, Copy, Debug, PartialEq, Eq)]
+pub struct Literal {
+    pub kind: LiteralKind,
+    pub len: usize,
+}

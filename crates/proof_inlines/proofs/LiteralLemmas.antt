@@ -1,7 +1,7 @@
 -- Addresses without angle brackets are at the front of their text, and not empty.
 use Rattle.std.proofs.Common.{◌≡◌, ℕ, zero, suc, ◌+◌, ◌-◌, ◌<◌, ◌≤◌, Bool, true, false, cond, ◌&&◌, List, [], ◌∷◌}
 use Rattle.std.proofs.Common.{◌++◌, length}
-use Rattle.std.proofs.Common.{take, drop, refl, ap, sym, subst, arith}
+use Rattle.std.proofs.Common.{take, drop, refl, sym, subst, arith}
 use Rattle.std.specs.Prelude.{◌==◌, ◌||◌, not, nat_le, codes, Option, Some, None, option_map}
 use Rattle.std.specs.Char.{is_ascii_alphanumeric, is_ascii_whitespace}
 use Rattle.std.specs.List.{prefix_len, slice_split, suffix_len, take_while}
@@ -15,13 +15,14 @@ use Rattle.md_inline_events.specs.Forest.{Forest, has_names, nothing, over, part
 use Rattle.md_inline_events.specs.Marks.{is_part_name}
 use Rattle.md_inlines.specs.Autolink.{at_sign}
 use Rattle.md_inlines.specs.Literal as l
-use Rattle.md_inlines.specs.Literal.{Literal, are_segments, domain_front, domain_len, extra_len, is_host}
+use Rattle.md_inlines.specs.Literal.{are_segments, domain_front, domain_len, is_host, path}
 use Rattle.md_inlines.specs.Literal.{email_at, email_len, is_host_byte, is_local_byte, literal_at, may_follow}
-use Rattle.md_inlines.specs.Literal.{path}
 use Rattle.md_inlines.specs.Literal.{resource_len, trimmed, without_extra, without_last, xmpp_len}
 use Rattle.md_inlines.specs.RawHtml.{repeated}
+use Rattle.md_inlines.specs.declared.Literal.{Literal}
 use Rattle.md_inlines.specs.declared.LiteralKind.{LiteralKind}
 use Rattle.md_inlines.specs.declared.LiteralKind.TheVariants as literal
+use Rattle.md_inline_scan.proofs.LiteralLemmas.{length-without_extra}
 use Rattle.md_inlines.specs.Atoms.{address, byte, is_data, literal_name}
 use Rattle.md_inlines.specs.Emails.{emails_at_most, emails_in, holds_text, with_emails}
 use Rattle.proof_inlines.specs.Sized.{IsFront, Over}
@@ -68,23 +69,9 @@ domain-is text len is = go (without_last dot (domain_front text)) short is
         segments true is = let same : suc (length domain) ≡ len = cc in (omega (arith, same), omega (arith, same, s))
         segments false is = cc
 
-extra-shorter : (xs ys : List ℕ) → without_extra xs ≡ Some ys → length ys < length xs
-extra-shorter [] ys is = cc
-extra-shorter (b ∷ xs) ys is = go (extra_len (b ∷ xs)) is
-  where
-    go : (k : ℕ) →
-        elim k as (λ (_ : ℕ). Option (List ℕ)) [
-          | zero ↦ None
-          | suc more ↦ Some (take (length (b ∷ xs) - suc more) (b ∷ xs))
-        ] ≡ Some ys → length ys < suc (length xs)
-    go zero is = cc
-    go (suc more) is =
-        let same : take (suc (length xs) - suc more) (b ∷ xs) ≡ ys = cc in
-        omega (arith, ap length same, length-take-le (suc (length xs) - suc more) (b ∷ xs) (omega arith))
-
 trimmed-within : (text : List ℕ) → length (trimmed text) ≤ length text
 unfolding trimmed
-trimmed-within text = repeated-shorter without_extra extra-shorter (length text) text
+trimmed-within text = repeated-shorter without_extra length-without_extra (length text) text
 
 address-is : (kind : LiteralKind) (front : ℕ) (text : List ℕ) (found : Literal) → l.address kind front text ≡
     Some found →
