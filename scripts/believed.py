@@ -5,10 +5,12 @@ below, or where one of these definitions names what belongs to the parser's run.
 
 It counts the same of what calls of first states and of flow promise of the rest of a line (`line` of
 `constructs::call`, `flow::start`, `document::flow_inside` and `document::containers_after`), with what is not among the
-lines of `parse`; and the same of what reading content makes of the lines of a text (`texts` of `read_texts`). It fails
-where there is more than the limits below, or where one of these definitions names a rule by cells, a transition or a
-value. And it counts what a reader has to believe of the inline definition (`content`), with what is not among the lines
-of `parse`."""
+lines of `parse`; the same of what reading content makes of the lines of a text (`texts` of `read_texts`); of what the
+first states of text promise of a line and of the lines of a text (`line` of `construct::content::chunk_start`,
+`construct::definition::start` and `construct::paragraph::start`), with what is not among any of these; and of what a
+reader has to believe of the inline definition (`content`), with what is not among the lines of `parse`. It fails where
+there is more than the limits below, or where one of these definitions names a rule by cells, a transition or a
+value."""
 import os
 import re
 import sys
@@ -29,6 +31,10 @@ MOST_OF_TEXTS = 100
 # what the inline content of a text is
 INLINES = ("Rattle.md_inlines.specs.Content", "content")
 MOST_OF_INLINES = 900
+# what the first states of text promise, by a behaviour
+OWN = "Rattle.markdown_blocks.specs.TextRule"
+FIRST = ((OWN, "IsChunkCall"), (OWN, "IsDefinitionCall"), (OWN, "IsParagraphCall"))
+MOST_OF_FIRST = 110
 # where rules by cells, transitions, schemes and values of constructs are from
 RULE = re.compile(r"Rattle\.(md_\w+\.specs\.(\w+Rule|Registry|Flow|Document|States|Scheme|Transition)|"
                   r"proof_\w+\.specs\.(LineLeaf|ContainerRules|Rule|Leaf\.(?!Paragraph)\w+|Containers\.\w+))\.")
@@ -150,18 +156,23 @@ def main():
     texts, own = lines_of(of_texts), lines_of(of_texts - all_of)
     print(f"{TEXTS[1]}: {texts} lines in {len({path for path, _ in of_texts})} files, of which {own} are not among those "
           f"of {STATEMENT[1]}")
+    of_first = set().union(*(unfolded(*call) for call in FIRST))
+    first, only = lines_of(of_first), lines_of(of_first - all_of - of_calls - of_texts)
+    print(f"{', '.join(name for _, name in FIRST)}: {first} lines in {len({path for path, _ in of_first})} files, "
+          f"of which {only} are not among those of any other")
     of_inlines = unfolded(*INLINES)
     inlines, own_inlines = lines_of(of_inlines), lines_of(of_inlines - all_of)
     print(f"{INLINES[1]}: {inlines} lines in {len({path for path, _ in of_inlines})} files, of which {own_inlines} are "
           f"not among those of {STATEMENT[1]}")
-    of_rules = {f"{path}.{name}" for path, name in of_calls | of_texts if RULE.match(f"{path}.") and path != LINES}
+    of_all = of_calls | of_texts | of_first
+    of_rules = {f"{path}.{name}" for path, name in of_all if RULE.match(f"{path}.") and path != LINES}
     for name in sorted(of_rules):
         print("believed: a clause of lines unfolds to", name)
     of_run = {f"{path}.{name}" for place in all_of for path, name in imports(*place) if RUN.match(path)}
     for name in sorted(of_run):
         print("believed: a definition names", name)
     sys.exit(lines > MOST or rest > MOST_ELSE or calls > MOST_OF_CALLS or new > MOST_NEW or own > MOST_OF_TEXTS
-             or own_inlines > MOST_OF_INLINES or bool(of_run | of_rules))
+             or own_inlines > MOST_OF_INLINES or only > MOST_OF_FIRST or bool(of_run | of_rules))
 
 
 main()

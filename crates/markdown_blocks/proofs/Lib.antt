@@ -26,3 +26,4 @@ pub mod ReadsWith
 pub mod DocumentReads
 pub mod Labels
 pub mod TextsRead
+pub mod TextRule

@@ -232,11 +232,11 @@ put-before x [] u role put = (
 )
 put-before x (y ∷ ys) u role put = (put.0, go-before (y ∷ ys) (u ∷ []) put.1)
 
-record UnderText (under : FrameRow) (u : Row) : Type 0 where
-  kind : under.kind ≡ LeafRow HeadingSetext
-  role : u.role ≡ Underline
+pub record UnderText (under : FrameRow) (u : Row) : Type 0 where
+  pub kind : under.kind ≡ LeafRow HeadingSetext
+  pub role : u.role ≡ Underline
 
-under-text : (options : ParseOptions) (bytes : List ℕ) (u : Row) (r under : FrameRow) (rs : List FrameRow) →
+pub under-text : (options : ParseOptions) (bytes : List ℕ) (u : Row) (r under : FrameRow) (rs : List FrameRow) →
     Fit options bytes u under → AreLines options bytes r rs → IsUnder options bytes (last_row r rs) under →
     UnderText under u
 under-text options bytes u r under rs fits are is = record { kind = kind; role = role }
@@ -306,7 +306,7 @@ turned-read options bytes x u r under xs rs small fit pairs fits put are is = re
 
 -- A head.
 
-head-read : (options : ParseOptions) (bytes : List ℕ) (x y : Row) (r next : FrameRow) (xs : List Row)
+pub head-read : (options : ParseOptions) (bytes : List ℕ) (x y : Row) (r next : FrameRow) (xs : List Row)
     (rs : List FrameRow) →
     Fit options bytes x r → Fit options bytes y next → IsPut (x ∷ y ∷ xs) →
     IsHead options bytes r next → AreSpan options bytes next rs → EachNoContent (next ∷ rs) →
@@ -395,7 +395,7 @@ each-before options bytes (r ∷ rs) More old new ess takes put quiet more =
     (λ x xs fit pairs puts. inl (record { none = quiet.0; same = refl }))
     (λ following takes_more puts. each-before options bytes rs More old new following takes_more puts quiet.1 more)))
 
-leaf-parts : (code : Bool) (rs : List FrameRow) → within_leaf code rs ++ following_leaf code rs ≡ rs
+pub leaf-parts : (code : Bool) (rs : List FrameRow) → within_leaf code rs ++ following_leaf code rs ≡ rs
 leaf-parts code [] = refl
 leaf-parts true (r ∷ rs) = inner-outer (r ∷ rs)
 leaf-parts false (r ∷ rs) = append-nil (r ∷ rs)

@@ -5,3 +5,5 @@ pub mod ContentRead
 pub mod FlowReads
 pub mod FrontRead
 pub mod TextsRead
+pub mod TextRule
+pub mod TextCalls

@@ -129,7 +129,7 @@ some-ending x r q line after = go (is_end x.line.ending) refl
     go false e = refl
 
 -- So these lines are where the cells of the rows do.
-along-are : (options : ParseOptions) (text : List ℕ) (x : Row) (xs : List Row) (r : FrameRow) (rs : List FrameRow) →
+pub along-are : (options : ParseOptions) (text : List ℕ) (x : Row) (xs : List Row) (r : FrameRow) (rs : List FrameRow) →
     (h : AreLines options text r rs) → AreAt text x xs r rs → AreTexts x xs r rs →
     Along text (x ∷ xs) r.first (lines_are options text r rs h) (turns_of options text r rs)
 along-are options text x [] r [] h here are =

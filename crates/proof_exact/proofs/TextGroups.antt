@@ -76,7 +76,7 @@ events-text options _ rows h other = absurd h
 
 -- What is known of the lines of a text.
 
-texts-at : (options : ParseOptions) (bytes : List ℕ) (x : Row) (r : FrameRow) (xs : List Row) (rs : List FrameRow) →
+pub texts-at : (options : ParseOptions) (bytes : List ℕ) (x : Row) (r : FrameRow) (xs : List Row) (rs : List FrameRow) →
     Fit options bytes x r → Pairs (Fit options bytes) xs rs → AreAt bytes x xs (row_with x.front r) rs
 texts-at options bytes x r xs rs fit pairs = first xs rs pairs
   where
@@ -144,7 +144,7 @@ last-some options bytes x r (y ∷ ys) (next ∷ rs) fit pairs are =
 last-some options bytes x r [] (next ∷ rs) fit pairs are = absurd pairs
 last-some options bytes x r (y ∷ ys) [] fit pairs are = absurd pairs
 
-are-text : (options : ParseOptions) (bytes : List ℕ) (x : Row) (r : FrameRow) (xs : List Row) (rs : List FrameRow) →
+pub are-text : (options : ParseOptions) (bytes : List ℕ) (x : Row) (r : FrameRow) (xs : List Row) (rs : List FrameRow) →
     Fit options bytes x r → Pairs (Fit options bytes) xs rs → AllGo xs → AreLines options bytes r rs →
     IsText x xs (row_with x.front r) rs
 are-text options bytes x r xs rs fit pairs proceeds are = record {
