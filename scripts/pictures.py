@@ -26,7 +26,7 @@ GROUPS = (
      "each construct seen by bytes, by cells and by lines; which there are, and in which order"),
     ("Constructs", r"md_leaves|md_literal|md_tables|md_link_definitions|md_content|md_containers|"
      r"md_order|md_resolve|md_outline|md_wrap", "states and their rules; resolvers, the outline, texts written into containers"),
-    ("Inline layers", r"md_inline_.*|proof_inline.*|md_entities|md_inlines|reference_inlines",
+    ("Inline layers", r"md_inline_.*|proof_inline.*|md_entities|md_inlines|reference_inlines|markdown_inlines",
      "what a text part means, and what a layer finds in it"),
     ("Beliefs and the tokenizer", r"md_engine|md_meaning|md_events|md_exact|md_scan",
      "what a text means, what events are, and what calls states"),

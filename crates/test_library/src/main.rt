@@ -11,12 +11,15 @@
 // A call that is refused memory has status 3 and prints nothing.
 //
 // Tests of the library and of the programs that no row can have: runs over inputs and outputs that fail or that signals
-// interrupt, arguments of a system, outlines by parts, the plain program on many containers, and what the layer of
-// references marks. A crate with tests is proved twice, so they are here and not beside what they test.
+// interrupt, arguments of a system, outlines by parts, the plain program on many containers, what the layer of
+// references marks, and which delimiter runs are matched. A crate with tests is proved twice, so they are here and not
+// beside what they test.
 #![tactic(auto)]
 
 ghost use Rattle.markdown_blocks.specs.Parsed.{IsSmall, IsWithoutMdx};
 
+#[cfg(test)]
+mod attention;
 #[cfg(test)]
 mod deep;
 #[cfg(test)]
