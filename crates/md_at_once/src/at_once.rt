@@ -469,9 +469,9 @@ fn call_table(tokenizer: &mut Tokenizer, first: TableState) -> State
     }
 }
 
-/// The same, where a construct may take several states in one call.
+/// Calls a state of a construct, which may take several states in one call.
 #[inline(always)]
-pub fn call_at_once(tokenizer: &mut Tokenizer, name: StateName) -> State
+fn call_construct(tokenizer: &mut Tokenizer, name: StateName) -> State
     requires current { (world tokenizer.old).current ≡ looks (world tokenizer.old) }
     requires valid { valid flow_table_scheme (world tokenizer.old) (State.Next name) }
     requires construct { is_flow_own name ≡ false }
@@ -483,4 +483,16 @@ pub fn call_at_once(tokenizer: &mut Tokenizer, name: StateName) -> State
         StateName::HtmlFlow(state) => html_lines::call(tokenizer, state),
         _ => constructs::call(tokenizer, name),
     }
+}
+
+/// Calls a state of a construct; where the leaf of a line accepts it, the line ends in the same call.
+#[inline(always)]
+pub fn call_at_once(tokenizer: &mut Tokenizer, name: StateName) -> State
+    requires current { (world tokenizer.old).current ≡ looks (world tokenizer.old) }
+    requires valid { valid flow_table_scheme (world tokenizer.old) (State.Next name) }
+    requires construct { is_flow_own name ≡ false }
+    ensures { IsFlowRun name (world tokenizer.old) result tokenizer.new }
+{
+    let to = call_construct(tokenizer, name);
+    end(tokenizer, to)
 }
