@@ -54,8 +54,8 @@ enum {{
     HOXALGURRE_UNKNOWN_SET = 4
 }};
 
-/* Names of events. A later version adds names at the end. Those from `Link` on are for inline layers: no event of blocks
- * has one. */
+/* Names of events. A later version adds names at the end. docs/events.md has which ones blocks have; the others are for
+ * inline layers: no event of blocks has one. */
 enum hoxalgurre_name {{
 {constants}    HOXALGURRE_NAME_COUNT = {len(every)}
 }};
