@@ -1,8 +1,7 @@
 -- Each state of flow takes one step of what flow means.
 use Rattle.md_registry.proofs.FlowSteps.{following_ending, containers_means, ending_left, leaves_means}
 use Rattle.md_registry.specs.FlowRule.{FlowInvariant, IsContinued, feeds, HasFlow, flow_at, line_ended}
-use Rattle.std.proofs.Common.{◌≡◌, inl, inr, ℕ, Bool, List, [], Some, refl, sym, ◌∙◌, ap, subst}
-use Rattle.md_engine.specs.declared.configuration.ParseOptions.{ParseOptions}
+use Rattle.std.proofs.Common.{◌≡◌, inl, inr, Bool, List, [], Some, refl, sym, ◌∙◌, ap, subst}
 use Rattle.md_engine.specs.declared.state.Name.{Name as StateName}
 use Rattle.md_engine.specs.declared.state.Name.TheVariants as n
 use Rattle.md_engine.specs.declared.state.document.State.{State as DocumentState}

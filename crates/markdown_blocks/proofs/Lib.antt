@@ -27,3 +27,11 @@ pub mod DocumentReads
 pub mod Labels
 pub mod TextsRead
 pub mod TextRule
+pub mod PartLined
+pub mod LineWaits
+pub mod PartBlocks
+pub mod PartHeld
+pub mod PartPieces
+pub mod PartEvents
+pub mod PartNext
+pub mod PartWhole

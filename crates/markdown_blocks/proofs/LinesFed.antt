@@ -110,7 +110,7 @@ drop-next (suc n) (first ∷ all) row below e = drop-next n all row below e
 
 -- the rule that stops before a line, and shows what is left there: it adds a cell, so it is distinguished from the end
 -- of the text
-abbrev line_stop : Rule
+abbrev pub line_stop : Rule
 line_stop cells h =
     Accepts h (record { byte = 0; after = h.point; line = record { start = 0; lazy = false } } ∷ cells)
 
@@ -120,27 +120,27 @@ AtStop P (Accepts h (c ∷ cells)) = P cells h
 AtStop P _ = ⊥
 
 -- A line begins at this place, where these cells are left and so many of all lines are before it.
-record LineAt (options : ParseOptions) (from : Point) (all : List Row) (n : ℕ) (left : List Cell)
+pub record LineAt (options : ParseOptions) (from : Point) (all : List Row) (n : ℕ) (left : List Cell)
     (h : Here) : Type 0 where
   -- what was added before the ending before it, and from there on, and what is open
-  front : List Event
-  tail : List Event
-  point : Point
-  containers : List Container
-  still : HeldLeaf
-  begins : Begins front tail point containers still h
+  pub front : List Event
+  pub tail : List Event
+  pub point : Point
+  pub containers : List Container
+  pub still : HeldLeaf
+  pub begins : Begins front tail point containers still h
   -- the further lines are read from here on
-  size : ℕ
-  fits : length left < size
-  few : length left ≤ any_size
-  rows : drop n all ≡ rows_at options size containers still left h.point
+  pub size : ℕ
+  pub fits : length left < size
+  pub few : length left ≤ any_size
+  pub rows : drop n all ≡ rows_at options size containers still left h.point
   -- the events of the lines before it, with the ends of the containers that the line closes, and without them
-  read : front ++ (ends_of (closes_before containers (drop n all)) point ++ tail) ≡ rows_events (take n all)
-  events : h.events ≡ rows_events (not_left (take n all))
+  pub read : front ++ (ends_of (closes_before containers (drop n all)) point ++ tail) ≡ rows_events (take n all)
+  pub events : h.events ≡ rows_events (not_left (take n all))
   -- where the last of them has ended, and what they leave open
-  place : h.point ≡ place_following from (take n all)
-  containers_are : containers ≡ open_after [] (take n all)
-  still_is : still ≡ leaf_after held_leaf.None (take n all)
+  pub place : h.point ≡ place_following from (take n all)
+  pub containers_are : containers ≡ open_after [] (take n all)
+  pub still_is : still ≡ leaf_after held_leaf.None (take n all)
 
 regroup : (front ends tail more : List Event) → front ++ (ends ++ (tail ++ more)) ≡ (front ++ (ends ++ tail)) ++ more
 regroup front ends tail more = simp append_assoc
@@ -251,7 +251,7 @@ is-further options all n (suc m) cs still left p fits rows =
 -- Calls.
 
 -- a call feeds a line or none
-none-or-ending : (name : StateName) (o : Option ℕ) →
+pub none-or-ending : (name : StateName) (o : Option ℕ) →
     (feeds name o ≡ 0) ⊎ ((name ≡ s.Document document.FlowEnd) × (o ≡ Some 10))
 none-or-ending (s.Document document.FlowEnd) None = inl refl
 none-or-ending (s.Document document.FlowEnd) (Some b) = go (nat_eq b 10) refl
@@ -264,17 +264,17 @@ none-or-ending (s.Document document.FlowEnd) (Some b) = go (nat_eq b 10) refl
 none-or-ending name o = inl refl
 
 -- what is left of one line at each state
-abbrev line_behaves : Setting → Behaviour
+abbrev pub line_behaves : Setting → Behaviour
 line_behaves x = flow_behaves_by x.bytes x.options line_stop
 
 -- So many of all lines were fed; the tokenizer becomes what is left of the line that it reads.
-record Within (under : Setting) (feed : Feed) (from : Point) (all : List Row) (n : ℕ) (t : State)
+pub record Within (under : Setting) (feed : Feed) (from : Point) (all : List Row) (n : ℕ) (t : State)
     (v : World) : Type 0 where
-  at : valid flow_table_scheme v (plain t)
-  left : List Cell
-  begin : Here
-  line : LineAt under.options from all n left begin
-  becomes : whole_outcome (line_behaves under) feed t v ≡ line_then under.options line_stop left begin
+  pub at : valid flow_table_scheme v (plain t)
+  pub left : List Cell
+  pub begin : Here
+  pub line : LineAt under.options from all n left begin
+  pub becomes : whole_outcome (line_behaves under) feed t v ≡ line_then under.options line_stop left begin
 
 -- a line was fed: no attempt is around, and the next begins
 record Following (under : Setting) (feed : Feed) (from : Point) (all : List Row) (n : ℕ) (t : State)
@@ -474,7 +474,7 @@ text-follows_it bytes options p small =
     text-follows (text_setting bytes options p) (length bytes) true small (omega arith) (λ e. refl)
 
 -- a run over it reads one line after another
-text-within : (bytes : List ℕ) (options : ParseOptions) (p : Point) →
+pub text-within : (bytes : List ℕ) (options : ParseOptions) (p : Point) →
     length bytes < 2 ^ 61 →
     (t : State) (v : World) (run : Runs FlowStep true line_begins (flow_begins bytes options p) t v) →
     Within (text_setting bytes options p) (feed_of bytes options p) p (text_rows options bytes p)
@@ -553,7 +553,7 @@ line-fed bytes options p small t v t' v' run c one = record {
 -- The last line.
 
 -- where a line becomes the end of the text, it is the last
-line-last : (options : ParseOptions) (from : Point) (all : List Row) (n : ℕ) (left : List Cell) (h : Here) →
+pub line-last : (options : ParseOptions) (from : Point) (all : List Row) (n : ℕ) (left : List Cell) (h : Here) →
     LineAt options from all n left h → (new : Here) → line_then options line_stop left h ≡ Accepts new [] →
     suc n ≡ length all
 line-last options from all n left h l new is = by l.size l.fits l.rows

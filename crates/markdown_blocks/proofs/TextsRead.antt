@@ -17,7 +17,6 @@ use Rattle.md_engine.specs.World.{World}
 use Rattle.md_content.specs.Chunks.{content_link}
 use Rattle.md_content.specs.ContentReads.{content_readings, wants_content}
 use Rattle.md_content.specs.Joined.{is_content, joined}
-use Rattle.md_engine.specs.declared.event.Content.{Content}
 use Rattle.md_events.proofs.FeedLines.{feed-none}
 use Rattle.md_events.specs.Events.Nested.{enter_link, exit}
 use Rattle.md_events.specs.Substituted.{Substituted}

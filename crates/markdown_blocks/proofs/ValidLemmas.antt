@@ -78,7 +78,7 @@ steps-left options bytes a p (suc n) (line ∷ next ∷ lines) (row ∷ below �
 steps-left options bytes a p (suc n) lines rows built plain are = absurd are
 
 -- as many rows as lines
-rows-size : (options : ParseOptions) (bytes : List ℕ) (cs : List Container) (still : HeldLeaf) (p : Point)
+pub rows-size : (options : ParseOptions) (bytes : List ℕ) (cs : List Container) (still : HeldLeaf) (p : Point)
     (lines : List (List ℕ)) (rows : List Row) →
     f.AreRows options bytes cs still p lines rows → length rows ≡ length lines
 rows-size options bytes cs still p (line ∷ []) (row ∷ []) are = refl

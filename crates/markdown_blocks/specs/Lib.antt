@@ -7,3 +7,4 @@ pub mod FrontRead
 pub mod TextsRead
 pub mod TextRule
 pub mod TextCalls
+pub mod PartRead

@@ -5,6 +5,7 @@ pub mod construct;
 pub mod engine;
 pub mod label;
 pub mod parser;
+mod parts;
 pub mod plain;
 pub mod seam;
 

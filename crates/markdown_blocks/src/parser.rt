@@ -263,7 +263,7 @@ impl Test for StaysByName {
 }
 
 /// How many events are before the first whose name does not show that it stays as it is.
-fn until_changed(events: &[Event]) -> usize
+pub(crate) fn until_changed(events: &[Event]) -> usize
     ensures value { result ≡ prefix_len stays_by_name events.now }
     ensures within { result ≤ length events.now }
 {
@@ -335,7 +335,10 @@ fn nothing(alloc: Global) -> Subresult
 /// they do, and that none is of a line of text.
 ///
 /// An `Err` says that memory ran out.
-fn read_content(tokenizer: &mut Tokenizer, known: usize) -> Result<(Subresult, usize), Message>
+pub(crate) fn read_content(
+    tokenizer: &mut Tokenizer,
+    known: usize,
+) -> Result<(Subresult, usize), Message>
     requires frames { (world tokenizer.old).frames ≡ [] }
     requires known { known ≤ prefix_len passes_alone (world tokenizer.old).events }
     requires side { AreSideBySide (world tokenizer.old).events }
@@ -388,7 +391,7 @@ fn read_texts(tokenizer: &mut Tokenizer, known: usize) -> Result<(Subresult, usi
 /// pass as they are where lines are joined.
 ///
 /// An `Err` says that memory ran out.
-fn resolve_blocks(
+pub(crate) fn resolve_blocks(
     tokenizer: &mut Tokenizer,
     options: &ParseOptions,
     many: usize,
@@ -448,7 +451,7 @@ fn read_flow<'a>(
 /// The labels of the footnote definitions among the events of a text, where these are on.
 ///
 /// An `Err` says that memory ran out.
-fn footnotes_of(
+pub(crate) fn footnotes_of(
     alloc: Global,
     bytes: &[u8],
     options: &ParseOptions,

@@ -149,7 +149,7 @@ next-begins text left number index column full more fulls is (NextLine line endi
     (placed-following text ending rest q following before
     (placed-text text p line (ending_bytes ending ++ rest) placed is h))
 
-lines-left : (text : List ℕ) (number index column : ℕ) (fulls : List (List ℕ)) → IsLines (drop index text) fulls →
+pub lines-left : (text : List ℕ) (number index column : ℕ) (fulls : List (List ℕ)) → IsLines (drop index text) fulls →
     Placed text (begin number index column) → (k : ℕ) →
     (drop k (lines_from number index column fulls) ≡ [])
     ⊎ LinesLeft text (drop k (lines_from number index column fulls))
