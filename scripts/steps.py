@@ -28,7 +28,7 @@ MOST: dict[str, tuple[int, int]] = {
     "setext headings": (35, 60),
     "quotes of long lines": (42, 1_152),
     "quotes in quotes in quotes": (46, 1_074),
-    "fences of some words": (39, 12_357),
+    "fences of some words": (37, 12_357),
     "lines of an open fence": (73, 18_535),
     "lines of indented code": (77, 18_535),
     "HTML": (21, 12_357),
