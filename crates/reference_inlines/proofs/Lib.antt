@@ -1,1 +1,9 @@
 pub mod LayerLemmas
+pub mod NodeLemmas
+pub mod FoundLemmas
+pub mod MergedLemmas
+pub mod RoundLemmas
+pub mod LeadingLemmas
+pub mod StateLemmas
+pub mod ReadingLemmas
+pub mod ContentLemmas

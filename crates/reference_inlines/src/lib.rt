@@ -1,5 +1,18 @@
-// Laws of the inline definition, as functions whose contracts are the laws.
+// Laws of the inline definition, as functions whose contracts are the laws, and the definition itself as plain, slow
+// functions, of which `content::content` is the whole. A forest is a list of nodes in the order of the text
+// (`node::Node`): where a part begins, where it ends, and pieces. No function calls itself, so the depth of a text
+// takes no stack. A contract says which definition a function computes, for each call that returns `Ok`.
 #![tactic(auto)]
+
+mod atom;
+mod brackets;
+pub mod content;
+mod emphasis;
+pub mod labels;
+mod merged;
+pub mod node;
+mod slices;
+pub mod target;
 
 ghost use Rattle.std.specs.Prelude.{◌≡◌, ℕ, Bool, List};
 ghost use Rattle.md_meaning.specs.Label.{Labels};
