@@ -81,10 +81,11 @@ def read_marks():
 
 
 def symbols(program):
-    """The functions that are out of line in a program, without their type parameters."""
+    """The functions that are out of line in a program, without their type parameters. A symbol with `++` is of an item of
+    another library, of which a crate has an instance."""
     words = ["llvm-nm", "--defined-only", "--format=just-symbols", program]
     ran = subprocess.run(words, executable=CLANG, capture_output=True, text=True, check=True)
-    return {re.sub(r"::<.*|\+.*|\{.*", "", it) for it in ran.stdout.split("\n")}
+    return {re.sub(r"::<.*|\+.*|\{.*", "", it) for it in ran.stdout.split("\n") if "++" not in it}
 
 
 def main():
