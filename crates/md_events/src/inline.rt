@@ -92,8 +92,8 @@ pub trait Inline {
 
     /// Replaces `events` with those of a text part, as `read_into`.
     ///
-    /// The block parser calls this. A layer learns here where the part is, and looks labels up in few steps: `labels`
-    /// are made once a document.
+    /// For a caller that knows where the part is and has an index of the labels, made once a document: a layer that
+    /// resolves references looks each label up in few steps.
     fn read_part(
         &self,
         alloc: Global,

@@ -1,2 +1,2 @@
-// The values and laws of headings, thematic breaks, frontmatter and tables.
+// The values and laws of leaf blocks, a folder for each.
 #![tactic(auto)]
