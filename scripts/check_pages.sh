@@ -7,7 +7,8 @@
 #   the block has the command alone, it prints what the file `stdout` of the crate has. A code block that begins with such
 #   a command and has no such line is refused.
 # - A line `<!-- text -->` is before a fenced block with one line, which `printf '%b'` makes the text of, and a line
-#   `<!-- events SET -->` before a fenced block: what `events SET` prints of that text.
+#   `<!-- events SET -->` before a fenced block: what `events SET` prints of that text; or `<!-- parts SET -->`: the same
+#   with a line for each part, its name, the line and column where it begins, and its first byte and the one after it.
 # - A text in quotes, its set, an arrow and blocks, each but the set between backticks, as in `"> a\nb"` (gfm) → `quote (paragraph)`:
 #   the outline of the text, each word with what is one deeper in parentheses. Lines of text are left out, unless one is
 #   shown in quotes. The set is `commonmark` where none is named.
@@ -52,6 +53,19 @@ def compare(place, printed, wanted):
 def escaped(text):
     """The bytes of a text as `printf` writes it."""
     return subprocess.run(["bash", "-c", "printf '%b' \"$1\"", "bash", text], capture_output=True, check=True).stdout
+
+
+def parts(printed):
+    """The parts of printed events, each at its begin."""
+    found, opened = [], []
+    for event in printed.splitlines():
+        sign, name, line, column, index, _ = event.split()
+        if sign == "+":
+            opened.append(len(found))
+            found.append(f"{'  ' * (len(opened) - 1)}{name} {line}:{column} {index}")
+        else:
+            found[opened.pop()] += f"..{index}"
+    return "".join(part + "\n" for part in found)
 
 
 def literal(text):
@@ -129,7 +143,7 @@ def check(page):
     at = 0
     while at < len(lines):
         line, place = lines[at], f"{page}:{at + 1}"
-        mark = re.fullmatch(r"<!-- (run|text|code|events)(?: ([^ ]+))? -->", line)
+        mark = re.fullmatch(r"<!-- (run|text|code|events|parts)(?: ([^ ]+))? -->", line)
         if mark and mark[1] == "run":
             shown, at = block(page, lines, at + 1)
             command(page, place, shown)
@@ -138,11 +152,13 @@ def check(page):
             quoted(place, mark[2], shown)
         elif mark and mark[1] == "text":
             text, at = block(page, lines, at + 1)
-            page = re.fullmatch(rf"<!-- events ({SETS}) -->", lines[at])
-            if len(text) != 1 or not page:
-                sys.exit(f"{place}: a text is one line, and a line `<!-- events SET -->` is after it")
+            asked = re.fullmatch(rf"<!-- (events|parts) ({SETS}) -->", lines[at])
+            if len(text) != 1 or not asked:
+                sys.exit(f"{place}: a text is one line, and `<!-- events SET -->` or `<!-- parts SET -->` is after it")
             shown, at = block(page, lines, at + 1)
-            compare(place, run("events", [page[1]], escaped(text[0])), (0, "".join(line + "\n" for line in shown)))
+            status, printed = run("events", [asked[2]], escaped(text[0]))
+            printed = parts(printed) if asked[1] == "parts" else printed
+            compare(place, (status, printed), (0, "".join(line + "\n" for line in shown)))
         elif mark:
             sys.exit(f"{place}: events without a text")
         elif re.fullmatch(r"```+\w*", line):

@@ -6,14 +6,11 @@
 # A crate changed if a file of it or its line in `crates.txt` did.
 #
 # - It proves, tests and runs the crates that changed, and above them each library that is short to prove (`rt ci
-# NAME..`,
-#   which keeps what passes for the gate).
+#   NAME..`, which keeps what passes for the gate).
 # - Without proof it runs the programs above that have a file `stdout`, and compares what they print, the tests above,
-# the
-#   rows of the bench on the parser and on the plain program, and the limits of steps (`scripts/steps.py`).
+#   the rows of the bench on the parser and on the plain program, and the limits of steps (`scripts/steps.py`).
 # - It runs `scripts/counts.py`, and each script that changed, or whose examples or pages did, if it needs no long
-# build:
-#   those of built programs take what is in `crates/NAME/out`, and are left out where nothing is.
+#   build: those of built programs take what is in `crates/NAME/out`, and are left out where nothing is.
 #
 # At the end it says what it left out; only `.ci/run` tries everything.
 set -euo pipefail

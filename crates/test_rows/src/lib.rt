@@ -28,7 +28,6 @@ pub mod definition_parts;
 pub mod definitions;
 pub mod event_case;
 pub mod events;
-pub mod extensions;
 pub mod headings;
 pub mod html;
 pub mod html_tags;
@@ -62,7 +61,7 @@ pub fn all() -> [&'static str; 17] {
         lists::rows(),
         tables::rows(),
         table_parts::rows(),
-        extensions::rows(),
+        constructs::rows(),
         tabs::rows(),
     ]
 }

@@ -9,6 +9,7 @@
 //                          the first body nest and tile it too
 
 use crate::case::CaseError;
+use crate::constructs::FRAGMENTS;
 use crate::runner::agree::{try_letters, try_text};
 use crate::runner::events::try_events;
 use crate::runner::report::Report;
@@ -44,15 +45,6 @@ const LETTERS: [&str; 12] = [
     "\t",
     // Endings: two in this order, and one in the other.
     "\n", "\r",
-];
-
-/// Fragments of all constructs; the last four begin lines with a byte whose first leaf refuses them.
-const FRAGMENTS: [&str; 46] = [
-    "a", " ", "  ", "    ", "\t", "\n", "\r", "\n\n", "\u{feff}", "\\", "> ", ">", "- ", "-\n",
-    "1. ", "10) ", "[^a]: ", "[^b]:\n", "# ", " #\n", "=\n", "---\n", "---", "+++\n", "***\n",
-    "```\n", "~~~ a\n", "$$\n", "<div>\n", "<a>\n", "<!--", "-->\n", "[a]: ", "[b]: c\n",
-    "\"t\"\n", "'", "|", "a|b\n", "-|-\n", ":-\n", "[!NOTE]", "[!tip]\n", "#a|b\n", "$a\n", "_a|",
-    "<a |",
 ];
 
 /// Fragments of alerts: markers, whole and in parts, and what they are in, after and before.
