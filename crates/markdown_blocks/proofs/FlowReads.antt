@@ -38,6 +38,7 @@ use Rattle.markdown_blocks.proofs.HoldsContent.{held-parts, quiet-side}
 use Rattle.md_flow.specs.Nests.{TextsNest}
 use Rattle.markdown_blocks.specs.Fed.{FlowRan}
 use Rattle.markdown_blocks.specs.FlowReads.{FlowReads, has_text}
+use Rattle.markdown_blocks.specs.TextMet.{TextsMet}
 use Rattle.proof_rows.specs.TextRows.{text_cells, text_rows, text_setting}
 use Rattle.md_registry.specs.FlowRule.{flow_at}
 use Rattle.proof_leaf_laws.specs.Headed.{heads_read}
@@ -426,12 +427,13 @@ flow-flushed-from bytes options p start to end at none flushed found new same al
     flow-flushed bytes options p end at none flushed found new small (subst P same (subst Q all run)) f h
 
 -- what the resolvers ask of the events that they get: that of content of the events of the lines, the others of what it
--- leaves
+-- leaves; and where the first states of texts are called
 pub record MaySet (bytes : List ℕ) (options : ParseOptions) (p : Point) (events : List Event) : Type 0 where
   pub texts_nest : TextsNest bytes options (rows_events (text_rows options bytes p))
   pub content_nests : ContentNests bytes options (heads_read options bytes (rows_events (text_rows options bytes p)))
   pub may_pass : MayPass every (lines_joined options events)
   pub may_nest : MayNest every bytes (lines_joined options events)
+  pub texts_met : TextsMet options bytes
 
 -- and once the lines of leaves are joined, and lists, headings and tables are set
 pub flow-reads : (bytes : List ℕ) (options : ParseOptions) (p : Point) (found : Found) (items new : World) →
@@ -459,6 +461,7 @@ flow-reads bytes options p found items new h may set =
       content_read = h.content_read;
       texts_nest = may.texts_nest;
       content_nests = may.content_nests;
+      texts_met = may.texts_met;
       may_pass = subst (λ (l : List Event). MayPass every (lines_joined options l)) h.events_are may.may_pass;
       may_nest = subst (λ (l : List Event). MayNest every bytes (lines_joined options l)) h.events_are may.may_nest;
       events_are = is;

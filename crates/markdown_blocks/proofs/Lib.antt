@@ -1,6 +1,10 @@
 pub mod FlowMeans
 pub mod FlowRuns
 pub mod LinesFed
+pub mod Attempts
+pub mod Levels
+pub mod FlowTries
+pub mod LineMet
 pub mod FlowSteps
 pub mod FlowReads
 pub mod LastLine
@@ -16,6 +20,7 @@ pub mod SpelledRows
 pub mod ValidLemmas
 pub mod TreeRows
 pub mod Parses
+pub mod ContentGroups
 pub mod ContentAre
 pub mod StaysAlone
 pub mod HoldsContent

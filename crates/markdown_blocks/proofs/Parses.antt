@@ -34,7 +34,7 @@ use Rattle.proof_rows.proofs.NestedRows.{Nests, rows-nest}
 use Rattle.proof_rows.proofs.PieceRows.{events-pieces}
 use Rattle.proof_rows.proofs.RowFacts.{AreRows}
 use Rattle.proof_rows.proofs.TextAre.{lines_of, rows_of, text-are}
-use Rattle.markdown_blocks.proofs.ContentAre.{part-of}
+use Rattle.markdown_blocks.proofs.ContentGroups.{part-of}
 use Rattle.markdown_blocks.proofs.FlowReads.{text-quiet}
 use Rattle.markdown_blocks.proofs.TextBlocks.{read-is, read_of}
 use Rattle.proof_rows.proofs.TileReads.{end-read}

@@ -75,7 +75,7 @@ use Rattle.proof_rows.proofs.RowFacts.{AreRows}
 use Rattle.proof_rows.proofs.AloneGroups.{leaves-alone}
 use Rattle.proof_rows.proofs.TabledGroups.{chain}
 use Rattle.proof_rows.proofs.TextAre.{MayBegin, body-begins, from-are, lines_of, rows_of, text-are}
-use Rattle.markdown_blocks.proofs.ContentAre.{content-are, part-of}
+use Rattle.markdown_blocks.proofs.ContentGroups.{content-are, part-of}
 use Rattle.markdown_blocks.proofs.FlowReads.{text-quiet}
 use Rattle.proof_rows.proofs.TileCovers.{blocks-cover}
 use Rattle.proof_rows.proofs.TileParts.{blocks-chunks, blocks-nested, blocks-are_valid}

@@ -4,3 +4,6 @@ pub mod Definition
 pub mod Paragraph
 pub mod Texts
 pub mod Calls
+pub mod OnText
+pub mod Inside
+pub mod Met

@@ -76,7 +76,7 @@ use Rattle.markdown_blocks.specs.ContentRead.{ReadIf, holds_content}
 use Rattle.markdown_blocks.specs.FlowReads.{IsFlowRead}
 use Rattle.markdown_blocks.specs.TextsRead.{AreGroupsRead, AreHeadRead, AreTextRead, AreTextsRead, IsGroupRead}
 use Rattle.markdown_blocks.specs.TextsRead.{body_groups, on_line, underline, unread_line}
-use Rattle.markdown_blocks.proofs.ContentAre.{content-are}
+use Rattle.markdown_blocks.proofs.ContentGroups.{content-are}
 use Rattle.markdown_blocks.proofs.FlowReads.{AreFlushed, content-step, text-framed, text-quiet}
 
 -- Events among which is no line of text.

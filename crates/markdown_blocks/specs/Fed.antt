@@ -1,9 +1,10 @@
 -- What is between two lines while flow reads a text: whenever a line has been fed, what the tokenizer holds represents
 -- what is open by the line definition.
-use Rattle.std.specs.Prelude.{◌≡◌, ℕ, suc, ◌+◌, ◌<◌, ◌≤◌, Bool, true, List, [], ◌∷◌, length, map, take, drop}
+use Rattle.std.specs.Prelude.{◌≡◌, ◌⊎◌, ℕ, suc, ◌+◌, ◌<◌, ◌≤◌, Bool, true, false, List, [], ◌∷◌, length, map, take, drop}
 use Rattle.md_engine.specs.declared.configuration.ParseOptions.{ParseOptions}
 use Rattle.md_engine.specs.declared.event.Point.{Point}
 use Rattle.md_engine.specs.declared.state.Name.TheVariants as s
+use Rattle.md_engine.specs.declared.state.content.State.TheVariants as content
 use Rattle.md_engine.specs.declared.state.document.State.TheVariants as document
 use Rattle.md_engine.specs.declared.state.State.{State}
 use Rattle.md_engine.specs.declared.state.State.TheVariants.{Next}
@@ -13,7 +14,9 @@ use Rattle.md_engine.specs.World.{World, fresh, looks, reads_to}
 use Rattle.md_meaning.specs.Preamble.{rest_at}
 use Rattle.md_meaning.specs.Rest.{Rest}
 use Rattle.md_events.specs.Events.Spelled.{Reading, read, unread}
-use Rattle.md_meaning.specs.State.{At, Container, Path}
+use Rattle.md_events.specs.Spaces.{IsRest}
+use Rattle.md_flow.specs.LineRule.{IsOpen}
+use Rattle.md_meaning.specs.State.{At, Container, Leaf, NoLeaf, Path, spot}
 use Rattle.md_meaning.specs.Step.{spot_of, steps}
 use Rattle.md_meaning.specs.Texts.{split_lines}
 use Rattle.md_meaning.specs.Tree.{End}
@@ -23,6 +26,7 @@ use Rattle.proof_frame.specs.Row.{Row, after_row}
 use Rattle.proof_rows.specs.Rows.{groups, groups_events, rows_events}
 use Rattle.proof_rows.specs.Valid.{Represents}
 use Rattle.md_registry.specs.FlowRule.{feeds}
+use Rattle.md_registry.specs.OpenSpan.{IsBuiltLeaf}
 use Rattle.md_registry.specs.States.{FlowStep}
 use Rattle.proof_rows.specs.TextRows.{text_rows}
 use Rattle.proof_frame.specs.Closed.{close_containers}
@@ -85,6 +89,18 @@ flow_begins bytes options p = reads_to (fresh bytes options p) (length bytes)
 abbrev pub line_begins : State
 line_begins = Next (s.Document document.ContainerExistingBefore)
 
+-- After the containers of a line, before which so many were fed, what calls of this state require is met: the tokenizer
+-- holds the leaf that was open before the line, or none where a container has opened on it.
+pub record IsLineMet (bytes : List ℕ) (options : ParseOptions) (p : Point) (n : ℕ) (w : World) : Type 0 where
+  pub rest : IsRest w.scratch
+  pub whole : w.setting.limit ≡ length w.setting.bytes
+  pub blank : w.flags.blank ≡ false
+  pub all : Bool
+  pub open_leaf : Leaf
+  pub is : (open_leaf ≡ (spot (path_after options bytes p n)).leaf) ⊎ (open_leaf ≡ NoLeaf)
+  pub built : IsBuiltLeaf open_leaf
+  pub holds : IsOpen w all open_leaf
+
 -- Flow has read a text, from a point on, and has become this.
 pub record FlowRan (bytes : List ℕ) (options : ParseOptions) (p : Point) (end : State) (at : World) : Type 0 where
   pub run : Runs FlowStep true line_begins (flow_begins bytes options p) end at
@@ -99,3 +115,13 @@ pub record FlowRan (bytes : List ℕ) (options : ParseOptions) (p : Point) (end 
       feeds call.name (looks v) ≡ 1 →
       AfterLines bytes options p
       (suc (fed FlowStep true line_begins (flow_begins bytes options p) t v before)) v'
+  -- each call of the first state of a line of text is at rest, where the text may be read to its end
+  pub texts_begin : (t : State) (v : World) (t' : State) (v' : World) →
+      Runs FlowStep true line_begins (flow_begins bytes options p) t v → (call : Calls FlowStep true t v t' v') →
+      call.name ≡ s.Content content.ChunkStart → IsRest v.scratch × (v.setting.limit ≡ length v.setting.bytes)
+  -- and each call after the containers of a line is made where what it requires is met
+  pub lines_met : IsWithoutMdx options → p.index ≤ length bytes → p.vs ≡ 0 → 1 ≤ p.column →
+      (t : State) (v : World) (t' : State) (v' : World)
+      (before : Runs FlowStep true line_begins (flow_begins bytes options p) t v)
+      (call : Calls FlowStep true t v t' v') → call.name ≡ s.Document document.ContainersAfter →
+      IsLineMet bytes options p (fed FlowStep true line_begins (flow_begins bytes options p) t v before) v

@@ -22,6 +22,7 @@ use Rattle.md_tables.specs.Tabled.{tabled}
 use Rattle.md_events.specs.Substituted.{Substituted}
 use Rattle.md_flow.specs.Nests.{TextsNest}
 use Rattle.markdown_blocks.specs.Fed.{FlowRan}
+use Rattle.markdown_blocks.specs.TextMet.{TextsMet}
 use Rattle.proof_leaf_laws.specs.Front.{body_point}
 use Rattle.proof_leaf_laws.specs.Headed.{heads_read}
 use Rattle.proof_frame.specs.Row.{Row}
@@ -55,6 +56,8 @@ pub record FlowReads (bytes : List ℕ) (options : ParseOptions) (p : Point) (fo
   -- which nests where the lines did,
   pub texts_nest : TextsNest bytes options (rows_events (text_rows options bytes p))
   pub content_nests : ContentNests bytes options (heads_read options bytes (rows_events (text_rows options bytes p)))
+  -- and where the first states of definitions and paragraphs are called before lines that are left of a text
+  pub texts_met : TextsMet options bytes
   -- of which leaf blocks hold no block, once the lines of each leaf of several are joined: so one pass may set all
   pub may_pass : MayPass every (lines_joined options content)
   -- and each resolver gets what fits it: where this nests, so does what they make of it

@@ -7,4 +7,5 @@ pub mod FrontRead
 pub mod TextsRead
 pub mod TextRule
 pub mod TextCalls
+pub mod TextMet
 pub mod PartRead

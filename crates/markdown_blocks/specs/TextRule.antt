@@ -118,11 +118,20 @@ pub record IsParagraphTaken (rows : List Row) (h : Here) (o : Outcome) : Type 0 
   pub point : to.point ≡ start (last_end rows)
 
 -- What is left after a call before these lines.
+
+-- These lines of a text are ahead: the tokenizer is at rest where the first begins, and they are what is still to come.
+pub record AreAhead (feed : Feed) (w : World) (row : Row) (rows : List Row) : Type 0 where
+  pub built : IsWithoutMdx w.setting.options
+  pub small : length w.setting.bytes < 2 ^ 61
+  pub left : AreLeft w.setting.options w.setting.bytes (row ∷ rows)
+  pub sees : Sees feed w
+  pub rest : IsRest w.scratch
+  pub at : w.point ≡ place row.line row.rest
+  pub cells : feed w.point ≡ cells_of (row ∷ rows)
+
 abbrev pub IsTextCall : Behaviour → World → State → World → (List Row → Here → Outcome → Type 0) → Type 0
 IsTextCall B old answer new Is =
-    (feed : Feed) (row : Row) (rows : List Row) → IsWithoutMdx old.setting.options →
-    length old.setting.bytes < 2 ^ 61 → AreLeft old.setting.options old.setting.bytes (row ∷ rows) → Sees feed old →
-    IsRest old.scratch → old.point ≡ place row.line row.rest → feed old.point ≡ cells_of (row ∷ rows) →
+    (feed : Feed) (row : Row) (rows : List Row) → AreAhead feed old row rows →
     Leaves B feed old answer new (Is (row ∷ rows) (here old))
 
 -- The first state of a definition takes these lines where the line definition has a definition at their front; else it

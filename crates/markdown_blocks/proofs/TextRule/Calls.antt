@@ -1,5 +1,5 @@
 -- What calls of the first states of text leave: of a line, and of the lines of a text.
-use Rattle.std.proofs.Common.{◌≡◌, ℕ, ◌^◌, ◌<◌, List, [], ◌∷◌, ◌++◌, length, refl, sym, ap, ap₂, ◌∙◌, subst₂}
+use Rattle.std.proofs.Common.{◌≡◌, ℕ, List, [], ◌∷◌, ◌++◌, refl, sym, ap, ap₂, ◌∙◌, subst₂}
 use Rattle.std.proofs.Common.{append_assoc}
 use Rattle.std.specs.Prelude.{Some}
 use Rattle.md_content.specs.ChunkRule.{ChunkMeans, HasChunk, chunk_at, inside_chunk, longer}
@@ -30,14 +30,13 @@ use Rattle.md_meaning.specs.Rest.{Rest}
 use Rattle.md_registry.specs.States.{flow_behaves_by}
 use Rattle.md_link_definitions.specs.DefinitionRule.{DefinitionMeans, HasDefinition}
 use Rattle.markdown_blocks.specs.TextCalls.{ChunkLine, DefinitionLines, ParagraphLines}
-use Rattle.markdown_blocks.specs.TextRule.{AreLeft, IsDefined, IsParagraphTaken, cells_of, is_defined}
+use Rattle.markdown_blocks.specs.TextRule.{AreAhead, IsDefined, IsParagraphTaken, is_defined}
 use Rattle.markdown_blocks.proofs.TextRule.Definition.{definition-left}
 use Rattle.markdown_blocks.proofs.TextRule.Lines.{AreNext}
 use Rattle.markdown_blocks.proofs.TextRule.Paragraph.{paragraph-left}
 use Rattle.markdown_blocks.proofs.TextRule.Texts.{left-next}
 use Rattle.proof_exact_lines.proofs.BeginsAt.{begins-place}
 use Rattle.proof_frame.specs.Rule.{Rule}
-use Rattle.proof_rows.specs.WithoutMdx.{IsWithoutMdx}
 
 -- A line of text.
 
@@ -118,26 +117,24 @@ content_has : (options : ParseOptions) → HasDefinitions (content_behaves optio
 content_has options =
     record { definition = definition_has options; paragraph = paragraph_has options; each = λ _ _ _. refl }
 
--- lines that are left are next where the tokenizer is
-next-here : (w : World) (feed : Feed) (row : Row) (rows : List Row) → IsWithoutMdx w.setting.options →
-    length w.setting.bytes < 2 ^ 61 → AreLeft w.setting.options w.setting.bytes (row ∷ rows) →
-    w.point ≡ place row.line row.rest → feed w.point ≡ cells_of (row ∷ rows) →
+-- lines that are ahead are next where the tokenizer is
+next-here : (w : World) (feed : Feed) (row : Row) (rows : List Row) → AreAhead feed w row rows →
     AreNext w.setting.bytes (row ∷ rows) w.point (feed w.point)
-next-here w feed row rows built small left at cells =
-    subst₂ (AreNext w.setting.bytes (row ∷ rows)) (sym at) (sym cells)
-    (left-next w.setting.options w.setting.bytes built small row rows left)
+next-here w feed row rows ahead =
+    subst₂ (AreNext w.setting.bytes (row ∷ rows)) (sym ahead.at) (sym ahead.cells)
+    (left-next w.setting.options w.setting.bytes ahead.built ahead.small row rows ahead.left)
 
 pub definition_lines : (old new : World) (to : State) → DefinitionMeans definition.Start old to new →
     DefinitionLines old to new
 unfolding DefinitionLines DefinitionMeans
 definition_lines old new to means = (
   content_has options,
-  λ feed row rows built small left s rest at cells.
+  λ feed row rows ahead.
       steps-leave B feed (n.Definition definition.Start) old new to
       (λ o. IsDefined (row ∷ rows) (here old) o (is_defined options (row ∷ rows)))
-      (means rest B feed (definition_has options) s)
-      (definition-left options old.setting.bytes (row ∷ rows) (feed old.point) (here old) rest
-      (next-here old feed row rows built small left at cells)),
+      (means ahead.rest B feed (definition_has options) ahead.sees)
+      (definition-left options old.setting.bytes (row ∷ rows) (feed old.point) (here old) ahead.rest
+      (next-here old feed row rows ahead)),
 )
   where
     options : ParseOptions
@@ -151,11 +148,11 @@ pub paragraph_lines : (old new : World) (to : State) → ParagraphMeans paragrap
 unfolding ParagraphLines ParagraphMeans
 paragraph_lines old new to means = (
   content_has options,
-  λ feed row rows built small left s rest at cells.
+  λ feed row rows ahead.
       steps-leave B feed (n.Paragraph paragraph.Start) old new to (IsParagraphTaken (row ∷ rows) (here old))
-      (means B feed (paragraph_has options) s)
+      (means B feed (paragraph_has options) ahead.sees)
       (paragraph-left old.setting.bytes (row ∷ rows) (feed old.point) (here old)
-      (next-here old feed row rows built small left at cells)),
+      (next-here old feed row rows ahead)),
 )
   where
     options : ParseOptions

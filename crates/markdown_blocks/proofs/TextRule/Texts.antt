@@ -1,18 +1,25 @@
 -- The lines of a text of a document are read by their cells.
 use Rattle.std.proofs.Common.{◌≡◌, ◌≢◌, ◌⊎◌, inl, inr, ℕ, ◌^◌, ◌<◌, Bool, true, false, cond, List, [], ◌∷◌, ◌++◌, length}
-use Rattle.std.proofs.Common.{refl, sym, ap, ◌∙◌, subst, subst₂, append-nil, append_assoc, drop}
+use Rattle.std.proofs.Common.{refl, sym, ap, ap₂, ◌∙◌, subst, subst₂, append-nil, append_assoc, drop}
 use Rattle.std.specs.List.{list_all}
 use Rattle.std.proofs.lemmas.Bool.{and_parts}
 use Rattle.md_engine.specs.declared.configuration.ParseOptions.{ParseOptions}
 use Rattle.md_engine.specs.declared.event.Event.{Event}
 use Rattle.md_engine.specs.declared.event.Point.{Point}
 use Rattle.md_engine.specs.Meaning.{Cell}
+use Rattle.md_engine.specs.TextFeed.{text_feed}
+use Rattle.md_engine.specs.World.{World}
+use Rattle.md_content.specs.ContentReads.{part_world}
+use Rattle.md_events.specs.declared.inline.Chunk.{Chunk}
+use Rattle.md_events.specs.Events.Places.{past_text}
 use Rattle.md_exact.specs.Blocks.{grouped}
-use Rattle.md_exact.specs.Places.{TextLine, lines_from, place}
+use Rattle.md_exact.specs.Places.{TextLine, line_end, lines_from, next_line, place}
+use Rattle.md_exact.proofs.OnLine.{place-on}
 use Rattle.md_exact.specs.Rows.{AfterCode, First, Further, Head, Role, Row, Underline}
 use Rattle.md_exact.specs.Rows.{rows_of as exact_rows}
 use Rattle.md_meaning.specs.State.{Leaf, NoLeaf, OpenCode, OpenParagraph}
 use Rattle.md_meaning.specs.Rest.{Rest, is_blank}
+use Rattle.markdown_blocks.specs.TextMet.{chunks_of, lines_begin}
 use Rattle.markdown_blocks.specs.TextRule.{AreLeft, cells_of, is_text}
 use Rattle.markdown_blocks.specs.TextsRead.{AreHeadRead, IsUnderline, body_groups}
 use Rattle.markdown_blocks.proofs.TextRule.Lines.{AreFilled, AreNext, cells-are}
@@ -35,15 +42,20 @@ use Rattle.proof_content_laws.proofs.Defined.Along.{Turn}
 use Rattle.proof_content_laws.proofs.Defined.Takes.{Walk}
 use Rattle.proof_exact_lines.proofs.Along.{Along, row-place}
 use Rattle.proof_exact_lines.proofs.Front.{begin}
+use Rattle.proof_exact_lines.proofs.LeafLines.{ends-at}
+use Rattle.proof_exact_lines.proofs.OnLine.{on-begins}
 use Rattle.proof_frame.specs.LeafName.{first_of}
-use Rattle.proof_frame.specs.Row.{BlankRow, LeafRow, Row as FrameRow, RowKind, TextRow, last_row}
+use Rattle.proof_frame.specs.RestLine.{rest_line}
+use Rattle.proof_frame.specs.Row.{BlankRow, LeafRow, Row as FrameRow, RowKind, TextRow, chunks_of as row_chunks}
+use Rattle.proof_frame.specs.Row.{last_row}
 use Rattle.proof_literal_laws.specs.Leaf.CodeIndented.{is_code}
-use Rattle.proof_rows.proofs.Defined.Cells.{lines-are, lines-walk, lines_are, turns_of}
+use Rattle.proof_rows.proofs.Defined.Cells.{lines-are, lines-walk, lines_are, turns_of, world-first}
 use Rattle.proof_rows.proofs.EachRow.{EachRow}
 use Rattle.proof_rows.proofs.GroupLines.{AreGroups, AreLines, AreSpan, first-text}
 use Rattle.proof_rows.proofs.GroupsAre.{groups-are}
 use Rattle.proof_rows.proofs.KindLemmas.{kind-text}
 use Rattle.proof_rows.proofs.KindRoles.{further_role, leaf_role}
+use Rattle.proof_rows.proofs.ParagraphReads.{part-read}
 use Rattle.proof_rows.specs.Rows.{Group, Headed, LeafLines, Lines, Single, Turned, groups, kind_of}
 use Rattle.proof_rows.specs.TextRows.{text_rows}
 use Rattle.proof_rows.specs.WithoutMdx.{IsWithoutMdx}
@@ -108,7 +120,28 @@ known-filled options bytes x r (y ∷ ys) (next ∷ rs) fit pairs are = (
   known-filled options bytes y next ys rs pairs.0 pairs.1 are.7,
 )
 
--- They are next where the first begins.
+-- They are where the cells of their rows do, which are in the text one after another,
+known-along : (options : ParseOptions) (bytes : List ℕ) (x : Row) (xs : List Row) → (k : KnownLines options bytes x xs) →
+    let are = lines-front options bytes x.front k.r k.rs k.are in
+    Along bytes (x ∷ xs) k.r.first (lines_are options bytes (row_with x.front k.r) k.rs are)
+    (turns_of options bytes (row_with x.front k.r) k.rs)
+known-along options bytes x xs k =
+    along-are options bytes x xs (row_with x.front k.r) k.rs (lines-front options bytes x.front k.r k.rs k.are)
+    (texts-at options bytes x k.r xs k.rs k.fit k.pairs)
+    (are-text options bytes x k.r xs k.rs k.fit k.pairs k.go k.are).are
+
+known-walk : (options : ParseOptions) (bytes : List ℕ) → length bytes < 2 ^ 61 → (x : Row) (xs : List Row) →
+    (k : KnownLines options bytes x xs) →
+    let are = lines-front options bytes x.front k.r k.rs k.are in
+    Walk bytes (last_row (row_with x.front k.r) k.rs).end k.r.first
+    (lines_are options bytes (row_with x.front k.r) k.rs are) (turns_of options bytes (row_with x.front k.r) k.rs)
+known-walk options bytes small x xs k =
+    let r = row_with x.front k.r in
+    let are = lines-front options bytes x.front k.r k.rs k.are in
+    subst (λ (l : List Cell). Walk bytes (last_row r k.rs).end r.first l (turns_of options bytes r k.rs))
+    (lines-are options bytes small r k.rs are) (lines-walk options bytes small r k.rs are)
+
+-- so they are next where the first begins.
 known-next : (options : ParseOptions) (bytes : List ℕ) → length bytes < 2 ^ 61 → (x : Row) (xs : List Row) →
     KnownLines options bytes x xs → AreNext bytes (x ∷ xs) (place x.line x.rest) (cells_of (x ∷ xs))
 known-next options bytes small x xs k =
@@ -125,6 +158,70 @@ known-next options bytes small x xs k =
     r : FrameRow
     r = row_with x.front k.r
 
+    cells : List Cell
+    cells = lines_are options bytes r k.rs (lines-front options bytes x.front k.r k.rs k.are)
+
+    turns : List Turn
+    turns = turns_of options bytes r k.rs
+
+    along : Along bytes (x ∷ xs) r.first cells turns
+    along = known-along options bytes x xs k
+
+    walk : Walk bytes (last_row r k.rs).end r.first cells turns
+    walk = known-walk options bytes small x xs k
+
+-- Their chunks are those of the rows, so a tokenizer that reads them begins with the first.
+
+row-end : (options : ParseOptions) (bytes : List ℕ) (x : Row) (r : FrameRow) → Fit options bytes x r →
+    r.end ≡ place x.line (line_end x.line)
+row-end options bytes x r fit =
+    fit.is.end
+    ∙ ap (λ (l : List ℕ). past_text l r.first) (fit.is.line_is ∙ ap (λ (s : Rest). rest_line s) fit.rest)
+    ∙ sym (ends-at x.line x.rest r.first (on-begins bytes fit.following x.line x.rest r.first fit.within fit.on))
+
+chunks-are : (options : ParseOptions) (bytes : List ℕ) (x : Row) (xs : List Row) (r : FrameRow) (rs : List FrameRow) →
+    Fit options bytes x r → Pairs (Fit options bytes) xs rs → row_chunks r rs ≡ chunks_of (x ∷ xs)
+chunks-are options bytes x [] r [] fit pairs =
+    ap₂ (λ (p q : Point). (let c : Chunk = record { first = p; after = q } in c) ∷ [])
+    (sym (place-on bytes fit.following x.line x.rest r.first fit.within fit.on)) (row-end options bytes x r fit)
+chunks-are options bytes x (y ∷ ys) r (next ∷ rs) fit pairs =
+    ap₂ (λ (p q : Point). (let c : Chunk = record { first = p; after = q } in c) ∷ row_chunks next rs)
+    (sym (place-on bytes fit.following x.line x.rest r.first fit.within fit.on)) (sym fit.next)
+    ∙ ap
+    (λ (l : List Chunk).
+    (let c : Chunk = record { first = place x.line x.rest; after = next_line x.line } in c) ∷ l)
+    (chunks-are options bytes y ys next rs pairs.0 pairs.1)
+chunks-are options bytes x [] r (next ∷ rs) fit pairs = absurd pairs
+chunks-are options bytes x (y ∷ ys) r [] fit pairs = absurd pairs
+
+chunks-with : (front : List Event) (r : FrameRow) (rs : List FrameRow) → row_chunks (row_with front r) rs ≡ row_chunks r rs
+chunks-with front r [] = refl
+chunks-with front r (next ∷ rs) = refl
+
+-- at the first line, with the cells of all
+pub record IsBegun (row : Row) (rows : List Row) (w : World) : Type 0 where
+  pub point : w.point ≡ place row.line row.rest
+  pub cells : text_feed w.setting w.point ≡ cells_of (row ∷ rows)
+  pub small : w.setting.limit < 2 ^ 61
+
+abbrev pub LinesBegin : ParseOptions → List ℕ → Row → List Row → Type 0
+LinesBegin options bytes row rows = IsBegun row rows (lines_begin options bytes (row ∷ rows))
+
+known-begin : (options : ParseOptions) (bytes : List ℕ) → length bytes < 2 ^ 61 → (x : Row) (xs : List Row) →
+    KnownLines options bytes x xs → LinesBegin options bytes x xs
+known-begin options bytes small x xs k =
+    subst (λ (l : List Chunk). IsBegun x xs (part_world bytes options l))
+    (chunks-with x.front k.r k.rs ∙ chunks-are options bytes x xs k.r k.rs k.fit k.pairs)
+    (record {
+      point = world-first options bytes r k.rs are ∙ sym (row-place bytes x xs r.first cells turns along);
+      cells = lines-are options bytes small r k.rs are
+          ∙ cells-are bytes (last_row r k.rs).end r.first x xs cells turns walk along;
+      small = (part-read options options bytes small r k.rs are).small;
+    })
+  where
+    r : FrameRow
+    r = row_with x.front k.r
+
     are : AreLines options bytes r k.rs
     are = lines-front options bytes x.front k.r k.rs k.are
 
@@ -135,14 +232,10 @@ known-next options bytes small x xs k =
     turns = turns_of options bytes r k.rs
 
     along : Along bytes (x ∷ xs) r.first cells turns
-    along =
-        along-are options bytes x xs r k.rs are (texts-at options bytes x k.r xs k.rs k.fit k.pairs)
-        (are-text options bytes x k.r xs k.rs k.fit k.pairs k.go k.are).are
+    along = known-along options bytes x xs k
 
     walk : Walk bytes (last_row r k.rs).end r.first cells turns
-    walk =
-        subst (λ (l : List Cell). Walk bytes (last_row r k.rs).end r.first l turns)
-        (lines-are options bytes small r k.rs are) (lines-walk options bytes small r k.rs are)
+    walk = known-walk options bytes small x xs k
 
 -- Groups.
 
@@ -398,25 +491,35 @@ first-is_text [] row rows under h =
 first-is_text (p ∷ passed) row rows under h =
     (and_parts (is_text p.role) (list_all (λ (r : Row). is_text r.role) (passed ++ row ∷ rows)) h).0
 
--- So lines that are left of a text are next.
-pub left-next : (options : ParseOptions) (bytes : List ℕ) → IsWithoutMdx options → length bytes < 2 ^ 61 → (row : Row)
-    (rows : List Row) → AreLeft options bytes (row ∷ rows) →
-    AreNext bytes (row ∷ rows) (place row.line row.rest) (cells_of (row ∷ rows))
-left-next options bytes built small row rows is =
+-- So lines that are left of a text are such.
+left-known : (options : ParseOptions) (bytes : List ℕ) → IsWithoutMdx options → length bytes < 2 ^ 61 → (row : Row)
+    (rows : List Row) → AreLeft options bytes (row ∷ rows) → KnownLines options bytes row rows
+left-known options bytes built small row rows is =
     go
     (each-at options bytes is.front (is.passed ++ ((row ∷ rows) ++ is.under)) is.back
     (subst (Each options bytes) is.groups (body-known options bytes built small)))
   where
-    go : GroupIs options bytes (is.passed ++ ((row ∷ rows) ++ is.under)) →
-        AreNext bytes (row ∷ rows) (place row.line row.rest) (cells_of (row ∷ rows))
+    go : GroupIs options bytes (is.passed ++ ((row ∷ rows) ++ is.under)) → KnownLines options bytes row rows
     go (OtherLines other) =
         let some = first-is_text is.passed row rows is.under is.lines in
         let bad : true ≡ false = sym some ∙ other in cc
     go (TextLines x xs under same underlines known) =
-        known-next options bytes small row rows
-        (known-last options bytes is.passed row rows x xs
+        known-last options bytes is.passed row rows x xs
         (parted-once (x ∷ xs) (is.passed ++ row ∷ rows) under is.under
         (known-under options bytes x known.r xs known.rs known.fit known.pairs known.are)
         (texts-under (is.passed ++ row ∷ rows) is.lines) underlines is.underlines
         (sym same ∙ sym (append_assoc is.passed (row ∷ rows) is.under)))
-        known)
+        known
+
+-- They are next,
+pub left-next : (options : ParseOptions) (bytes : List ℕ) → IsWithoutMdx options → length bytes < 2 ^ 61 → (row : Row)
+    (rows : List Row) → AreLeft options bytes (row ∷ rows) →
+    AreNext bytes (row ∷ rows) (place row.line row.rest) (cells_of (row ∷ rows))
+left-next options bytes built small row rows is =
+    known-next options bytes small row rows (left-known options bytes built small row rows is)
+
+-- and a tokenizer that reads them begins with the first.
+pub left-begin : (options : ParseOptions) (bytes : List ℕ) → IsWithoutMdx options → length bytes < 2 ^ 61 → (row : Row)
+    (rows : List Row) → AreLeft options bytes (row ∷ rows) → LinesBegin options bytes row rows
+left-begin options bytes built small row rows is =
+    known-begin options bytes small row rows (left-known options bytes built small row rows is)

@@ -9,6 +9,7 @@ ghost use Rattle.md_engine.specs.declared.state.State.{State};
 ghost use Rattle.md_engine.specs.declared.state.content.State.{State as ContentState};
 ghost use Rattle.md_events.specs.Transition.{IsAt, NeedsNothing};
 ghost use Rattle.markdown_blocks.specs.TextCalls.{ChunkLine};
+ghost use Rattle.markdown_blocks.specs.TextMet.{LineMet};
 
 use md_content::content;
 pub use md_content::content::{
@@ -18,7 +19,8 @@ pub use md_content::content::{
 use md_engine::state::State;
 use md_engine::tokenizer::Tokenizer;
 
-/// Before a line of text. It takes the rest of any line, which is read later (`line`).
+/// Before a line of text. It takes the rest of any line, which is read later (`line`). Where the text may be read to its
+/// end, as in a parse, the rest of a line is next (`met`).
 ///
 /// ```markdown
 /// > | a
@@ -28,6 +30,7 @@ pub fn chunk_start(tokenizer: &mut Tokenizer) -> State
     requires { IsAt NeedsNothing (StateName.Content ContentState.ChunkStart) (world tokenizer.old) }
     ensures state { IsChunkState ContentState.ChunkStart (world tokenizer.old) result tokenizer.new }
     ensures line { result ≢ State.Error → ChunkLine (world tokenizer.old) result (world tokenizer.new) }
+    ensures met { LineMet (world tokenizer.old) }
 {
     content::chunk_start(tokenizer)
 }
