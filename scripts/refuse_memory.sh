@@ -3,10 +3,9 @@
 # in that folder). Each request is refused twice: alone, and with all that follow it. The number of the first that is
 # refused rises until a run meets no refusal (`scripts/refuse.c`).
 #
-# - Of `test_library`, those of one call of the library: `parse`, `parse_with`, `outline`, `outline_part`,
-# `wrap::quote`, `wrap::item`,
-# `wrap::footnote`, and the `run` of `blocks`, all on one text. What the program asks for before and after the call is
-# counted apart.
+# - Of `test_library`, those of one call of the library: `parse`, `parse_with`, `outline`, `outline_part`, `wrap::quote`,
+# `wrap::item`, `wrap::footnote`, and the `run` of `blocks`, all on one text, and those of `Parts` on another. What the
+# program asks for before and after the call is counted apart.
 # A refused run ends with status 3 and prints nothing, and the last run prints what is given here. The states that take
 # no memory
 #   answer while each request is refused.
@@ -82,10 +81,35 @@ footnotes 1
 = f
 """
 
+# The outline of the text that is read by parts.
+PARTS_OUTLINE = b"""definition
+  label | k
+  destination | l
+paragraph
+  | m
+quote
+  paragraph
+    | n
+paragraph
+  | o
+footnote
+  label | f
+  paragraph
+    | g
+paragraph
+  | p
+
+definitions 1
+= k
+footnotes 1
+= f
+"""
+
 # What each call prints, and what it says where it is refused.
 CALLS = {
     "parse": (TEXT_OUTLINE, b""),
     "parse_with": (TEXT_OUTLINE, b""),
+    "parts": (PARTS_OUTLINE, b""),
     "outline": (TEXT_OUTLINE, b""),
     "outline_part": (TEXT_OUTLINE, b""),
     "quote": (b"\n".join(b"> " + line for line in TEXT.split(b"\n")), b""),

@@ -11,7 +11,7 @@ use markdown_blocks::label::normal_form;
 use markdown_blocks::message::Message;
 use markdown_blocks::names::{bare_word, is_block, is_container, is_prefix, is_text_part, text_of};
 use markdown_blocks::outline::{outline, outline_part};
-use markdown_blocks::parser::{MAX_LEN, parse, parse_with};
+use markdown_blocks::parser::{MAX_LEN, Parts, parse, parse_with};
 use markdown_blocks::plain::Plain;
 use markdown_blocks::slice::{Position, Slice};
 use markdown_blocks::wrap::{item, quote};
@@ -59,6 +59,21 @@ fn label_count(alloc: Global, text: &str) -> Result<Option<usize>, Message> {
     }
     let (_events, state) = parse_with(alloc, &Plain, text, &ParseOptions::GFM)?;
     Ok(Some(state.definitions.len() + state.gfm_footnote_definitions.len()))
+}
+
+/// The labels of the definitions of a text, part by part.
+fn labels_by_parts(alloc: Global, text: &str) -> Result<String, Message>
+    requires { IsSmall text.now }
+{
+    let mut labels = String::new(alloc);
+    let mut parts = Parts::new(alloc, text, &ParseOptions::GFM);
+    while let Some(part) = parts.next()? {
+        for label in part.definitions.iter() {
+            write!(labels, "{label} ")?;
+        }
+        parts.reuse(part);
+    }
+    Ok(labels)
 }
 
 /// The lines of an outline, each as deep as its block.
@@ -147,6 +162,11 @@ fn report(alloc: Global) -> Result<String, Message> {
         block_names(alloc, "a|b\n-|-\n\n[^f]: g", "gfm")?
     )?;
     writeln!(lines, "{:?}", label_count(alloc, "[a]: b\n\n[^c]: d")?)?;
+    writeln!(
+        lines,
+        "{}",
+        labels_by_parts(alloc, "[A]: b\n\nc\n\n[d]: e")?
+    )?;
     writeln!(lines, "{}", outlined(alloc, "> # a\n")?)?;
     writeln!(lines, "{}", outline_words(alloc, "> # a\n")?)?;
     if let Some(text) = wrapped(alloc, "a\nb", &ParseOptions::GFM)? {

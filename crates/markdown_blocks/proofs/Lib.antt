@@ -32,7 +32,9 @@ pub mod DocumentReads
 pub mod Labels
 pub mod TextsRead
 pub mod TextRule
+pub mod PartLabels
 pub mod PartLined
+pub mod PartLaid
 pub mod LineWaits
 pub mod PartBlocks
 pub mod PartHeld
@@ -40,3 +42,4 @@ pub mod PartPieces
 pub mod PartEvents
 pub mod PartNext
 pub mod PartWhole
+pub mod PartFront

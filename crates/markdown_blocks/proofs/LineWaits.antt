@@ -87,7 +87,7 @@ rests-same p [] = refl
 rests-same p (own ∷ owns) = refl
 
 -- where there is a byte, there is a line
-some-lines : (bytes : List ℕ) → EndsLine bytes [] → 0 < length (full_lines_of bytes)
+pub some-lines : (bytes : List ℕ) → EndsLine bytes [] → 0 < length (full_lines_of bytes)
 some-lines [] ends = absurd ends
 some-lines (b ∷ bytes) ends = go (ends_line b bytes) (full_lines_of bytes)
   where

@@ -6,11 +6,12 @@ use Rattle.std.specs.List.{All, list_all}
 use Rattle.std.proofs.lemmas.Bool.{and_from, and_parts}
 use Rattle.md_engine.specs.declared.configuration.ParseOptions.{ParseOptions}
 use Rattle.md_engine.specs.declared.event.Event.{Event}
+use Rattle.md_engine.specs.declared.event.Name.TheVariants as n
 use Rattle.md_engine.specs.declared.event.Point.{Point}
 use Rattle.md_engine.specs.Place.{IsPlaced, first_point}
 use Rattle.md_containers.specs.Listed.{listed}
 use Rattle.md_containers.proofs.ListedBlocks.{listed-blocks}
-use Rattle.md_containers.proofs.ListedKept.{listed-placed}
+use Rattle.md_containers.proofs.ListedKept.{listed-pieces, listed-placed}
 use Rattle.md_meaning.specs.Texts.{split_lines}
 use Rattle.std.specs.Prelude.{None}
 use Rattle.std.proofs.lemmas.List.Elements.{All-append, All-cons, All-head, All-nil, All-tail}
@@ -19,8 +20,10 @@ use Rattle.md_events.specs.Events.Inline.{IsPart, Part, chunk_placed, ends_whole
 use Rattle.md_events.specs.Events.Inline.{plain_chunks, together}
 use Rattle.std.specs.Prelude.{IsTrue}
 use Rattle.std.proofs.Common.{rules}
+use Rattle.md_events.specs.Events.Inline.{Covers, Piece, pieces}
+use Rattle.md_events.specs.Events.Nested.{pair}
 use Rattle.md_events.specs.Events.Places.{are_placed, at_or_before, is_placed}
-use Rattle.md_events.specs.Events.Tiles.{IsBlockList, parts}
+use Rattle.md_events.specs.Events.Tiles.{IsBlockList, end_point, parts}
 use Rattle.md_events.specs.Events.Grammar.{Expression}
 use Rattle.md_events.specs.Events.Grammar.{blocks}
 use Rattle.md_events.specs.Events.Grammar.{is_whole}
@@ -41,6 +44,7 @@ use Rattle.md_events.proofs.PartsLemmas.{EachPart, parts-are}
 use Rattle.md_events.proofs.ReachedLemmas.{events-placed}
 use Rattle.proof_frame.specs.Row.{Row}
 use Rattle.proof_frame.proofs.PartsValid.{valid-outside}
+use Rattle.proof_frame.proofs.PiecesLemmas.{tiled-pair}
 use Rattle.proof_leaf_laws.proofs.Frontmatter.Whole.{ToLine}
 use Rattle.proof_rows.specs.BlockList.{tabled_groups}
 use Rattle.proof_rows.specs.Rows.{groups}
@@ -50,10 +54,12 @@ use Rattle.proof_rows.proofs.EndingRows.{blocks-endings}
 use Rattle.proof_rows.proofs.GrammarRows.{blocks-grammar}
 use Rattle.proof_rows.proofs.RowFacts.{AreRows}
 use Rattle.proof_rows.proofs.TextAre.{MayBegin, from-are}
+use Rattle.proof_rows.proofs.TileCovers.{blocks-cover}
 use Rattle.proof_rows.proofs.TileParts.{blocks-are_valid, blocks-chunks, blocks-nested}
 use Rattle.proof_rows.proofs.TileReads.{end-unread}
 use Rattle.markdown_blocks.proofs.FlowReads.{text-quiet}
 use Rattle.markdown_blocks.proofs.PartHeld.{part-held}
+use Rattle.markdown_blocks.proofs.PartLaid.{pieces-following}
 use Rattle.markdown_blocks.proofs.PartPieces.{part-pieces}
 
 -- blocks, and nothing before them, keep the grammar
@@ -100,6 +106,19 @@ part-blocks options bytes p built small begins events same placed =
           blocks-endings options bytes p [] lines rows (ToLine (λ ys. refl) (λ text kind more h. form-of text more h))
           (end-unread options bytes p small) are quiet;
     }))
+
+-- Their innermost pairs lie side by side, from that point to the end of the text.
+pub part-covers : (options : ParseOptions) (bytes : List ℕ) (p : Point) → IsWithoutMdx options →
+    length bytes < 2 ^ 61 → MayBegin bytes p → (events : List Event) →
+    events ≡ listed bytes (tabled_groups options bytes (groups (text_rows options bytes p))) →
+    Covers p (pieces events) (end_point bytes)
+part-covers options bytes p built small begins events same =
+    let rows : List Row = text_rows options bytes p in
+    let blocks : List Event = tabled_groups options bytes (groups rows) in
+    subst (λ (ps : List Piece). Covers p ps (end_point bytes))
+    (pieces-following n.Data p blocks ∙ sym (ap pieces same ∙ listed-pieces bytes blocks))
+    (blocks-cover options bytes p (pair n.Data first_point p) (split_lines (drop p.index bytes)) rows
+    (tiled-pair n.Data first_point p) (from-are options bytes p built small begins)).1
 
 -- The text parts of a block list are lines.
 

@@ -36,7 +36,7 @@ NoneLast wants (e ∷ []) = wanted wants e ≡ None
 NoneLast wants (e ∷ f ∷ es) = NoneLast wants (f ∷ es)
 
 -- the events from one on, by whether a chunk begins there
-abbrev LinedBy : (Content → Bool) → List ℕ → Event → Event → List Event → Option Content → List Event
+abbrev pub LinedBy : (Content → Bool) → List ℕ → Event → Event → List Event → Option Content → List Event
 LinedBy wants bytes e f es o = elim o [
   | None ↦ e ∷ lined wants bytes (f ∷ es)
   | Some _ ↦ plain_chunk bytes (chunk_of e f) ++ lined wants bytes es

@@ -12,22 +12,29 @@ use Rattle.md_engine.specs.declared.configuration.ParseOptions.{ParseOptions}
 use Rattle.md_engine.specs.declared.event.Event.{Event}
 use Rattle.md_engine.specs.declared.event.Point.{Point}
 use Rattle.md_engine.specs.Place.{IsPlaced, is_pair}
-use Rattle.md_events.specs.Events.Places.{columns_before, splits_pair, within_tab}
+use Rattle.md_events.specs.Events.Places.{columns_before, same_place, splits_pair, within_tab}
+use Rattle.md_events.specs.Events.Tiles.{IsBlockList, end_point}
 use Rattle.md_events.specs.Lined.{lined}
 use Rattle.md_events.specs.TextPart.{wants_text}
+use Rattle.md_events.proofs.InlineLemmas.{same-refl}
 use Rattle.md_events.proofs.PlacesLemmas.{Placed, at-next, drop-next, placed-facts}
 use Rattle.md_events.proofs.ReachedLemmas.{point-placed}
 use Rattle.md_events.proofs.TextParts.{placed-events}
 use Rattle.md_exact.specs.Places.{TextLine, line_at, lines_from}
-use Rattle.md_meaning.specs.Lines.{ends_line, full_lines_of, is_ending}
+use Rattle.md_meaning.specs.Label.{both, labels}
+use Rattle.md_meaning.specs.Lines.{ends_line, full_lines_of, is_ending, lines_of}
+use Rattle.md_meaning.specs.Preamble.{rests_at}
+use Rattle.md_meaning.specs.State.{closed}
+use Rattle.md_meaning.specs.Step.{steps}
 use Rattle.md_meaning.specs.Texts.{first_byte, split_lines}
 use Rattle.proof_exact_lines.proofs.Front.{begin}
 use Rattle.proof_exact.proofs.TextLines.{LinesLeft, lines-left}
 use Rattle.proof_leaf_laws.proofs.FullLines.{full-lines}
-use Rattle.proof_exact.specs.Parts.{BeginsEmpty, EndsLine, IsTextCut, events_from, placed_lines}
+use Rattle.proof_exact.specs.Parts.{BeginsEmpty, EndsLine, IsTextCut, events_from, nothing_open, placed_lines}
 use Rattle.proof_exact.proofs.TextCut.{reads-on-text}
 use Rattle.proof_exact.proofs.TextParts.{ends-alone, text-lines}
-use Rattle.markdown_blocks.specs.PartRead.{BeginsPart, IsPartRead, LeadsOn, events_at, is_part_end}
+use Rattle.markdown_blocks.specs.PartRead.{BeginsPart, events_at, is_part_end, labels_at}
+use Rattle.markdown_blocks.proofs.PartLabels.{labels-cut}
 use Rattle.markdown_blocks.proofs.PartLined.{chunks-last, lined-append, lined-within, placed-before}
 use Rattle.markdown_blocks.proofs.PartLined.{placed-within}
 
@@ -246,28 +253,46 @@ end-only text p number is past placed =
         facts.column ∙ ap₂ (λ (i v : ℕ). columns_before text i + v + 1) index whole
         ∙ sym placed.column
 
--- The text has the events of the part, and then those from there on.
-pub leads-on : (options : ParseOptions) (text : List ℕ) (to : ℕ) (p next : Point) (events : List Event) →
-    length text < 2 ^ 61 → BeginsPart text p → p.index < to → to < length text →
-    is_part_end text to ≡ true →
-    IsPlaced (take to text) next → length (take to text) ≤ next.index →
+-- What a text has from a point on is what it has up to this place, where it is read as one that ends there, and then what
+-- it has from the next point on, which is there.
+pub record LeadsTo (options : ParseOptions) (text : List ℕ) (to : ℕ) (p next : Point) : Type 0 where
+  pub events : events_at options text p ≡ events_at options (take to text) p ++ events_at options text next
+  pub labels : labels_at options text p ≡ both (labels_at options (take to text) p) (labels_at options text next)
+  pub begins : BeginsPart text next
+  pub place : same_place (end_point (take to text)) next ≡ true
+
+pub leads-to : (options : ParseOptions) (text : List ℕ) (to : ℕ) (p next : Point) → length text < 2 ^ 61 →
+    BeginsPart text p → p.index < to → to < length text → is_part_end text to ≡ true → IsPlaced (take to text) next →
+    length (take to text) ≤ next.index →
     IsTextCut options
     (placed_lines p.line p.index (p.column - 1) (full_lines_of (drop p.index (take to text)))) →
-    IsPartRead options (take to text) p events →
-    LeadsOn options text p events next × BeginsPart text next
-leads-on options text to p next events small begins before inside end at-end past cut read = (
-  ap (lined wants_text text) all
-      ∙ lined-append wants_text text list rest (chunks-last 0 list read.list.chunks)
+    IsBlockList (take to text) (events_from options (take to text) p.line p.index (p.column - 1)) →
+    LeadsTo options text to p next
+leads-to options text to p next small begins before inside end at-end past cut blocks = record {
+  events =
+      ap (lined wants_text text) all
+      ∙ lined-append wants_text text list rest (chunks-last 0 list blocks.chunks)
       ∙ ap₂ (λ (xs ys : List Event). xs ++ ys)
-      (sym (lined-within wants_text text to list (placed-events slice sized list read.list.placed)) ∙ sym read.are)
-      (ap (events_at options text) (sym same)),
-  record {
+      (sym (lined-within wants_text text to list (placed-events slice sized list blocks.placed)))
+      (ap (events_at options text) (sym same));
+  labels =
+      ap
+      (λ (l : List ℕ). labels (closed options (steps options nothing_open (rests_at (p.column - 1) (lines_of l)))))
+      (part-before text to p.index (omega (arith, before)))
+      ∙ labels-cut options p.line p.index (p.column - 1) bytes (drop to text) ends (begins-empty text to inside end)
+      cut
+      ∙ ap (λ (q : Point). both (labels_at options slice p) (labels_at options text q)) (sym same);
+  begins = record {
     placed = placed-within text to next small (omega (arith, inside)) (end-whole text to end) at-end;
     inside = let i = ap (λ (q : Point). q.index) same in omega (arith, i, inside, size);
     whole = ap (λ (q : Point). q.vs) same;
     column = let c = ap (λ (q : Point). q.column) same in omega (arith, c);
-  },
-)
+  };
+  place =
+      ap (λ (q : Point). same_place (end_point slice) q) same
+      ∙ ap (λ (i : ℕ). (i == to) && (0 == 0)) long
+      ∙ same-refl (begin (p.line + length (full_lines_of bytes)) to 0);
+}
   where
     slice : List ℕ
     slice = take to text

@@ -9,3 +9,4 @@ pub mod TextRule
 pub mod TextCalls
 pub mod TextMet
 pub mod PartRead
+pub mod PartsLeft

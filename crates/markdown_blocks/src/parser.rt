@@ -23,6 +23,7 @@ ghost use Rattle.proof_container_laws.specs.Footnotes.{footnotes_listed};
 ghost use Rattle.markdown_blocks.specs.Parsed.{IsParsed, IsRead, IsWithoutMdx};
 ghost use Rattle.md_meaning.specs.Wrapped.{IsSmall};
 
+pub use crate::parts::{Part, Parts};
 use crate::plain::Plain;
 use md_at_once::table::FlowTable;
 use md_content::footnote_labels::footnote_labels;
@@ -115,7 +116,7 @@ impl<I: Inline> Reader for TextReader<'_, '_, I> {
 /// Takes the byte order mark and the frontmatter at the front of a text, if they are there.
 ///
 /// An `Err` says that memory ran out.
-fn read_front<'a>(
+pub(crate) fn read_front<'a>(
     alloc: Global,
     bytes: &'a [u8],
     options: &'a ParseOptions,

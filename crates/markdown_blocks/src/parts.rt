@@ -1,32 +1,40 @@
-// Reading one part of a text. No public call reads a text part by part yet: a call here reads one part, and says where
-// the next may begin.
+// A text that is read part by part, so that memory follows its largest part and not the text.
 //
 // A part is whole blocks. It ends where the text does, or before an empty line where a paragraph is open and no
 // container is. That line ends the paragraph, as the end of a text does, and nothing after it changes what is before
-// it: so a part is read as a text that ends there, and its events, and after them those of the text from the next part
-// on, are those of the text from the part on. An item is never last in a part that is followed by another, since the
-// next item might be one of its list.
+// it: so each part is read as a text that ends there, and the events of the parts, one after the other, are those of
+// the text, and so are the labels. An item is never last in a part that is followed by another, since the next item
+// might be one of its list.
 //
 // Where a part ends is tried at one empty line, and where it does not end there at another that is twice as far: a text
 // of one block is one part.
 
-ghost use Rattle.std.specs.Prelude.{◌≡◌, ◌≤◌, ◌<◌, IfNone, IfOk, IfSome, false, length, true};
+ghost use Rattle.std.specs.Prelude.{◌≡◌, ◌≤◌, ◌<◌, ◌++◌, IfErr, IfNone, IfOk, IfSome, List, Some, None, [], length, true};
+ghost use Rattle.std.specs.Prelude.{false};
+ghost use Rattle.std.specs.Option.{ForSome};
+ghost use Rattle.md_engine.specs.declared.event.Event.{Event};
+ghost use Rattle.md_engine.specs.declared.parse_state.ParseState.{ParseState};
 ghost use Rattle.md_engine.specs.Found.{found_in};
 ghost use Rattle.md_engine.specs.Place.{IsPlaced, is_ending};
 ghost use Rattle.md_engine.specs.Run.{IsStopped, Runs, plain};
 ghost use Rattle.md_engine.specs.Scheme.{valid};
 ghost use Rattle.md_engine.specs.World.{fresh, world};
 ghost use Rattle.md_events.specs.Events.Inline.{plain_chunks, together};
-ghost use Rattle.md_events.specs.Lined.{AreLines};
+ghost use Rattle.md_events.specs.Events.Places.{first_point, same_place};
+ghost use Rattle.md_events.specs.Events.Tiles.{end_point};
+ghost use Rattle.md_events.specs.Lined.{AreLines, lined};
 ghost use Rattle.md_events.specs.TextPart.{wants_text};
+ghost use Rattle.md_exact.specs.Blocks.{exact};
+ghost use Rattle.md_meaning.specs.Label.{both, labels, no_labels};
+ghost use Rattle.md_meaning.specs.Meaning.{tree};
 ghost use Rattle.md_registry.specs.States.{FlowStep, flow_table_scheme};
 ghost use Rattle.markdown_blocks.specs.Fed.{flow_begins, line_begins};
 ghost use Rattle.markdown_blocks.specs.FlowReads.{FlowReads};
-ghost use Rattle.markdown_blocks.specs.Parsed.{IsSmall, IsWithoutMdx};
-ghost use Rattle.markdown_blocks.specs.PartRead.{BeginsPart, IsPartRead, LeadsOn, WaitsInText, events_at};
-ghost use Rattle.markdown_blocks.specs.PartRead.{is_part_end};
+ghost use Rattle.markdown_blocks.specs.Parsed.{IsParsed, IsSmall, IsWithoutMdx};
+ghost use Rattle.markdown_blocks.specs.PartRead.{AreAhead, AreLaid, BeginsPart, HasPart, IsPartRead, MayRead};
+ghost use Rattle.markdown_blocks.specs.PartRead.{WaitsInText, is_part_end, labels_of, point_in};
 
-use crate::parser::{footnotes_of, read_content, resolve_blocks, until_changed};
+use crate::parser::{footnotes_of, read_content, read_front, resolve_blocks, until_changed};
 use md_at_once::table::FlowTable;
 use md_engine::configuration::ParseOptions;
 use md_engine::event::{Content, Event, Point};
@@ -43,15 +51,37 @@ use md_events::subtokenize::{Reader, subtokenize};
 use std::alloc::Global;
 use std::mem;
 
-/// Some whole blocks of a text.
+/// How many bytes a part has at least, if the text has as many.
+const LEAST: usize = 32 * 1024;
+
+/// Some whole blocks of a text, or its front: its byte order mark and its frontmatter.
 #[derive(Drop)]
-pub(crate) struct Part {
-    /// Their events, at their points of the text.
+pub struct Part {
+    /// Their events, at their points of the text. Text parts are read by the plain layer, as by `parse`.
     pub events: Vec<Event>,
     /// The labels of the definitions among them, in their normal forms and in the order of the text, repeats kept.
     pub definitions: Vec<String>,
     /// Those of the footnote definitions.
     pub gfm_footnote_definitions: Vec<String>,
+}
+
+/// A text that is read part by part. It keeps nothing of the parts that were handed out.
+#[derive(Drop)]
+pub struct Parts<'a> {
+    alloc: Global,
+    bytes: &'a [u8],
+    options: &'a ParseOptions,
+    /// How many bytes a part has at least, if the text has as many.
+    least: usize,
+    /// Whether a part was handed out.
+    begun: bool,
+    /// Where the next part begins then, if there is one.
+    start: Option<Point>,
+    /// A list for the events of the next part.
+    spare: Vec<Event>,
+    ghost small: { IsSmall bytes.now },
+    ghost built: { IsWithoutMdx options.now },
+    ghost may: { ForSome start (λ p. MayRead options.now bytes.now p) },
 }
 
 /// Reads lines: each chunk of a text part is one. It asks for no labels.
@@ -226,7 +256,7 @@ fn part_of<'a>(
     requires built { IsWithoutMdx options.now }
     requires begins { BeginsPart bytes.now start }
     requires reads { FlowReads bytes.now options.now start (found_in found) (world tokenizer) }
-    ensures { IfOk result (λ part. IsPartRead options.now bytes.now start part.events.items) }
+    ensures { IfOk result (λ part. IsPartRead options.now bytes.now start part) }
 {
     let gfm_footnote_definitions = footnotes_of(alloc, bytes, options, &tokenizer.events)?;
     let state = ParseState {
@@ -244,7 +274,8 @@ fn part_of<'a>(
     })
 }
 
-/// Reads a part from a point to an empty line, if it may end there. Returns where the next part begins, too.
+/// Reads a part from a point to an empty line, if it may end there. Returns where the next part begins, too. A list of
+/// events that is lent is left where the part may not end there.
 ///
 /// An `Err` says that memory ran out.
 fn read_cut(
@@ -257,17 +288,18 @@ fn read_cut(
 ) -> Result<Option<(Part, Point)>, Message>
     requires small { IsSmall text.now }
     requires built { IsWithoutMdx options.now }
-    requires begins { BeginsPart text.now start }
+    requires may { MayRead options.now text.now start }
     requires some { start.index < to }
     requires within { to < length text.now }
     requires end { is_part_end text.now to ≡ true }
-    ensures begins { IfOk result (λ read. IfSome read (λ read. BeginsPart text.now read.1)) }
-    ensures events { IfOk result
-        (λ read. IfSome read (λ read. LeadsOn options.now text.now start read.0.events.items read.1)) }
+    ensures part { IfOk result
+        (λ read. IfSome read (λ read. HasPart options.now text.now start read.0 (Some read.1))) }
+    ensures next { IfOk result (λ read. IfSome read (λ read. MayRead options.now text.now read.1)) }
 {
     let bytes = &text[..to];
     let (tokenizer, state) = push_lines(alloc, bytes, options, start, lent)?;
     if !waits_in_text(&tokenizer, state) {
+        *lent = tokenizer.events;
         return Ok(None);
     }
     let next = tokenizer.point;
@@ -288,8 +320,8 @@ fn read_last(
 ) -> Result<Part, Message>
     requires small { IsSmall text.now }
     requires built { IsWithoutMdx options.now }
-    requires begins { BeginsPart text.now start }
-    ensures { IfOk result (λ part. part.events.items ≡ events_at options.now text.now start) }
+    requires may { MayRead options.now text.now start }
+    ensures { IfOk result (λ part. HasPart options.now text.now start part None) }
 {
     let (tokenizer, state) = push_lines(alloc, text, options, start, lent)?;
     let (tokenizer, found) = set_lines(text, options, start, tokenizer, state)?;
@@ -299,7 +331,7 @@ fn read_last(
 /// Reads a part from a point on, of so many bytes at least. Returns where the next part begins, too, if there is one.
 ///
 /// An `Err` says that memory ran out.
-pub(crate) fn read_at_least(
+fn read_at_least(
     alloc: Global,
     text: &[u8],
     options: &ParseOptions,
@@ -309,12 +341,9 @@ pub(crate) fn read_at_least(
 ) -> Result<(Part, Option<Point>), Message>
     requires small { IsSmall text.now }
     requires built { IsWithoutMdx options.now }
-    requires begins { BeginsPart text.now start }
-    ensures begins { IfOk result (λ read. IfSome read.1 (λ next. BeginsPart text.now next)) }
-    ensures more { IfOk result
-        (λ read. IfSome read.1 (λ next. LeadsOn options.now text.now start read.0.events.items next)) }
-    ensures last { IfOk result
-        (λ read. IfNone read.1 (read.0.events.items ≡ events_at options.now text.now start)) }
+    requires may { MayRead options.now text.now start }
+    ensures part { IfOk result (λ read. HasPart options.now text.now start read.0 read.1) }
+    ensures next { IfOk result (λ read. ForSome read.1 (λ next. MayRead options.now text.now next)) }
 {
     let mut to = part_end(text, start.index, least.max(1));
     while to < text.len() {
@@ -325,4 +354,140 @@ pub(crate) fn read_at_least(
     }
     let part = read_last(alloc, text, options, start, lent)?;
     Ok((part, None))
+}
+
+/// A point, if it is in the text.
+fn point_in(text: &[u8], point: Point) -> Option<Point>
+    ensures { result ≡ point_in text.now point }
+{
+    if point.index < text.len() {
+        Some(point)
+    } else {
+        None
+    }
+}
+
+impl<'a> Parts<'a> {
+    ghost use Rattle.markdown_blocks.specs.PartsLeft.{left_in};
+
+    /// A text that is read in parts of 32 KB, or larger where a block is.
+    ///
+    /// The text has at most `MAX_LEN` bytes, and the constructs of MDX are off. A byte order mark before the text is
+    /// taken as such. Nothing is read yet, and no memory is taken.
+    pub fn new(alloc: Global, value: &'a str, options: &'a ParseOptions) -> Parts<'a>
+        requires size { IsSmall value.now }
+        requires built { IsWithoutMdx options.now }
+        ensures text { (left_in result).text ≡ value.now }
+        ensures events { (left_in result).events ≡ lined wants_text value.now (exact options.now value.now) }
+        ensures parsed { (events : List Event) (state : ParseState) → IsParsed value.now options.now events state →
+            (left_in result).events ≡ events }
+        ensures labels { (left_in result).labels ≡ labels (tree options.now value.now) }
+        ensures place { (left_in result).place ≡ first_point }
+    {
+        Parts::with_least(alloc, value, options, LEAST)
+    }
+
+    /// The same in parts of so many bytes at least: each ends where it may end first after as many.
+    ///
+    /// What is asked of the text and of the options is as for `new`.
+    pub fn with_least(
+        alloc: Global,
+        value: &'a str,
+        options: &'a ParseOptions,
+        least: usize,
+    ) -> Parts<'a>
+        requires size { IsSmall value.now }
+        requires built { IsWithoutMdx options.now }
+        ensures text { (left_in result).text ≡ value.now }
+        ensures events { (left_in result).events ≡ lined wants_text value.now (exact options.now value.now) }
+        ensures parsed { (events : List Event) (state : ParseState) → IsParsed value.now options.now events state →
+            (left_in result).events ≡ events }
+        ensures labels { (left_in result).labels ≡ labels (tree options.now value.now) }
+        ensures place { (left_in result).place ≡ first_point }
+    {
+        Parts {
+            alloc,
+            bytes: value.as_bytes(),
+            options,
+            least,
+            begun: false,
+            start: None,
+            spare: Vec::new(alloc),
+        }
+    }
+
+    /// The events of the front, if nothing was handed out yet, and where the next part begins after them.
+    ///
+    /// An `Err` says that memory ran out.
+    fn ahead(&self) -> Result<(Vec<Event>, Option<Point>), Message>
+        ensures { IfOk result
+            (λ read.
+            AreAhead self.now.options.now self.now.bytes.now self.now.begun self.now.start read.0.items read.1) }
+    {
+        if self.begun {
+            return Ok((Vec::new(self.alloc), self.start));
+        }
+        let front = read_front(self.alloc, self.bytes, self.options)?;
+        let start = point_in(self.bytes, front.point);
+        Ok((front.events, start))
+    }
+
+    /// The next part, or `None` where all of the text was handed out. The front of a text is a part of its own. Each part
+    /// has an event at least.
+    ///
+    /// An `Err` says that memory ran out; then the same part may be asked for again.
+    pub fn next(&mut self) -> Result<Option<Part>, Message>
+        ensures text { (left_in self.new).text ≡ (left_in self.old).text }
+        ensures events { IfOk result
+            (λ part.
+            IfSome part (λ part. (left_in self.old).events ≡ part.events.items ++ (left_in self.new).events)) }
+        ensures some { IfOk result (λ part. IfSome part (λ part. 0 < length part.events.items)) }
+        ensures labels { IfOk result
+            (λ part.
+            IfSome part (λ part. (left_in self.old).labels ≡ both (labels_of part) (left_in self.new).labels)) }
+        ensures laid { IfOk result
+            (λ part.
+            IfSome part
+            (λ part.
+            AreLaid (left_in self.old).text (left_in self.old).place part.events.items (left_in self.new).place)) }
+        ensures none { IfOk result (λ part. IfNone part ((left_in self.old).events ≡ [])) }
+        ensures defined { IfOk result (λ part. IfNone part ((left_in self.old).labels ≡ no_labels)) }
+        ensures end { IfOk result
+            (λ part.
+            IfNone part (same_place (left_in self.old).place (end_point (left_in self.old).text) ≡ true)) }
+        ensures stays { IfOk result (λ part. IfNone part (left_in self.new ≡ left_in self.old)) }
+        ensures failed { IfErr result (λ error. left_in self.new ≡ left_in self.old) }
+    {
+        let (front, start) = self.ahead()?;
+        if !front.is_empty() {
+            self.begun = true;
+            self.start = start;
+            return Ok(Some(Part {
+                events: front,
+                definitions: Vec::new(self.alloc),
+                gfm_footnote_definitions: Vec::new(self.alloc),
+            }));
+        }
+        let Some(start) = start else {
+            return Ok(None);
+        };
+        let (part, next) = read_at_least(
+            self.alloc,
+            self.bytes,
+            self.options,
+            start,
+            self.least,
+            &mut self.spare,
+        )?;
+        self.begun = true;
+        self.start = next;
+        Ok(Some(part))
+    }
+
+    /// Takes the list of events of a part that is done with, for the next part.
+    pub fn reuse(&mut self, part: Part)
+        ensures { left_in self.new ≡ left_in self.old }
+    {
+        self.spare = part.events;
+    }
 }

@@ -1,7 +1,7 @@
 // The program `test_library`: it makes one call of the library between two requests for memory of known sizes, so that
 // a test can refuse the requests of that call alone (`scripts/refuse_memory.sh`). Its argument names the call:
 //
-//     parse, parse_with, outline, outline_part
+//     parse, parse_with, parts, outline, outline_part
 //                                   it prints the outline of the text
 //     quote, item, footnote         it prints the text in that container
 //     run                           it prints what `printing::run_blocks::run` prints of its standard input
@@ -11,7 +11,7 @@
 // A call that is refused memory has status 3 and prints nothing.
 //
 // Tests of the library and of the programs that no row can have: runs over inputs and outputs that fail or that signals
-// interrupt, arguments of a system, outlines by parts, the plain program on many containers, what the layer of
+// interrupt, arguments of a system, texts and outlines by parts, the plain program on many containers, what the layer of
 // references marks, and which delimiter runs are matched. A crate with tests is proved twice, so they are here and not
 // beside what they test.
 #![tactic(auto)]
@@ -27,6 +27,8 @@ mod marks;
 #[cfg(test)]
 mod parts;
 #[cfg(test)]
+mod read_parts;
+#[cfg(test)]
 mod runs;
 #[cfg(test)]
 mod signals;
@@ -41,7 +43,7 @@ use markdown_blocks::configuration::ParseOptions;
 use markdown_blocks::event::Event;
 use markdown_blocks::message::Message;
 use markdown_blocks::outline::{outline, outline_part};
-use markdown_blocks::parser::{ParseState, parse, parse_with};
+use markdown_blocks::parser::{ParseState, Parts, parse, parse_with};
 use markdown_blocks::wrap::{footnote, item, quote};
 use md_program::body::{Body, MOST, Outlined};
 use md_program::print::print;
@@ -57,6 +59,9 @@ use std::process::ExitCode;
 /// reference over two lines.
 const TEXT: &str =
     "> [a\n> b]: c\n\n- x | y\n  --|--\n  1 | 2\n\n# h\n\ni\n=\n\n[^f]: g\n\n[A\nB] j";
+
+/// A text of several parts: its byte order mark, two that end after a paragraph, and a last one.
+const PARTED: &str = "\u{feff}[k]: l\n\nm\n\n> n\n\no\n\n[^f]: g\n\np";
 
 /// The size of the request before a call.
 pub const BEFORE: usize = 42_421;
@@ -100,6 +105,57 @@ fn parsed_with(alloc: Global, text: &str, options: &ParseOptions) -> Result<Stri
 {
     let _before = mark(alloc, BEFORE)?;
     let parsed = parse_with(alloc, &References, text, options);
+    let _after = mark(alloc, AFTER)?;
+    let (events, state) = parsed?;
+    printed(alloc, &events, state)
+}
+
+/// More parts than the text has.
+const MOST_PARTS: usize = 100;
+
+/// The events and the labels of the parts of a text, each of which ends as soon as it may, one after the other.
+fn joined<'a>(
+    alloc: Global,
+    text: &'a str,
+    options: &'a ParseOptions,
+) -> Result<(Vec<Event>, ParseState<'a>), Message>
+    requires size { IsSmall text.now }
+    requires built { IsWithoutMdx options.now }
+{
+    let mut events = Vec::new(alloc);
+    let mut definitions = Vec::new(alloc);
+    let mut footnotes = Vec::new(alloc);
+    let mut parts = Parts::with_least(alloc, text, options, 1);
+    for _part in 0..MOST_PARTS {
+        let Some(mut part) = parts.next()? else {
+            break;
+        };
+        if events.append(&mut part.events).is_err()
+            || definitions.append(&mut part.definitions).is_err()
+            || footnotes
+                .append(&mut part.gfm_footnote_definitions)
+                .is_err()
+        {
+            return Err(Message);
+        }
+        parts.reuse(part);
+    }
+    let state = ParseState {
+        options,
+        bytes: text.as_bytes(),
+        definitions,
+        gfm_footnote_definitions: footnotes,
+    };
+    Ok((events, state))
+}
+
+/// The same part by part.
+fn parsed_by_parts(alloc: Global, text: &str, options: &ParseOptions) -> Result<String, Message>
+    requires size { IsSmall text.now }
+    requires built { IsWithoutMdx options.now }
+{
+    let _before = mark(alloc, BEFORE)?;
+    let parsed = joined(alloc, text, options);
     let _after = mark(alloc, AFTER)?;
     let (events, state) = parsed?;
     printed(alloc, &events, state)
@@ -173,7 +229,7 @@ fn in_footnote(alloc: Global, text: &str, options: &ParseOptions) -> Result<Stri
 
 /// What is printed of a call, or nothing of a word that is none.
 fn answer(alloc: Global, word: &str) -> Result<String, Message> {
-    let text = TEXT;
+    let text = if word == "parts" { PARTED } else { TEXT };
     if text.len() > MOST {
         return Err(Message);
     }
@@ -181,6 +237,7 @@ fn answer(alloc: Global, word: &str) -> Result<String, Message> {
     match word {
         "parse" => parsed(alloc, text, &options),
         "parse_with" => parsed_with(alloc, text, &options),
+        "parts" => parsed_by_parts(alloc, text, &options),
         "outline" => outlined(alloc, text, &options),
         "outline_part" => outlined_part(alloc, text, &options),
         "quote" => in_quote(alloc, text, &options),

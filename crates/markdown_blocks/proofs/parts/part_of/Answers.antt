@@ -1,7 +1,8 @@
-use Rattle.std.proofs.Common.{◌≡◌, ℕ, List, ap, arith, subst}
+use Rattle.std.proofs.Common.{◌≡◌, ℕ, List, ap, arith, refl, subst, ◌∙◌}
 use Rattle.md_engine.specs.Found.{found_in}
 use Rattle.md_engine.specs.World.{Setting, world}
 use Rattle.md_events.specs.Parts.{ArePlaced}
+use Rattle.proof_container_laws.specs.Footnotes.{footnotes_listed}
 use Rattle.markdown_blocks.proofs.PartWhole.{is-asked, is-read}
 use Rattle.markdown_blocks.proofs.parts.part_of.Goals as goal
 
@@ -23,4 +24,10 @@ returns c =
     is-read c.args.options.now c.args.bytes.now c.args.start c.requires.built (omega (arith, c.requires.small))
     c.requires.begins (found_in c.args.found) (world c.args.tokenizer) c.requires.reads
     (subst (λ (l : List ℕ). ArePlaced l c.args.tokenizer.events.items) same c.args.tokenizer.sound.right)
-    c.in_ok-events.events.items c.in_ok-events.ensures.substituted
+    (record {
+      events = c.in_ok-events.events;
+      definitions = c.args.found.definitions;
+      gfm_footnote_definitions = c.in_ok-gfm_footnote_definitions.gfm_footnote_definitions;
+    }) c.in_ok-events.ensures.substituted refl
+    (c.in_ok-gfm_footnote_definitions.ensures
+    ∙ ap (footnotes_listed c.args.options.now c.args.bytes.now) c.deref.ensures.value)

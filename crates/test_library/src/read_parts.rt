@@ -1,0 +1,144 @@
+// A text that is read part by part has the events of its parse, one part after the other, and its labels.
+ghost use Rattle.markdown_blocks.specs.Parsed.{IsSmall, IsWithoutMdx};
+
+use markdown_blocks::configuration::ParseOptions;
+use markdown_blocks::message::Message;
+use markdown_blocks::parser::{Part, Parts, parse};
+use std::alloc::Global;
+use std::process::Abort;
+
+// More parts than a text here has.
+const MOST_PARTS: usize = 1000;
+
+// The next part. Where it is refused memory, it is asked for again.
+fn next_part(parts: &mut Parts) -> Result<Option<Part>, Message> {
+    if let Ok(part) = parts.next() {
+        return Ok(part);
+    }
+    parts.next()
+}
+
+// In how many parts a text is read; `None` if their events or their labels are not those of its parse.
+fn count_parts(
+    alloc: Global,
+    text: &str,
+    options: &ParseOptions,
+    least: usize,
+) -> Result<Option<usize>, Message>
+    requires small { IsSmall text.now }
+    requires built { IsWithoutMdx options.now }
+{
+    let (events, state) = parse(alloc, text, options)?;
+    let mut wanted = events.iter();
+    let mut definitions = state.definitions.iter();
+    let mut footnotes = state.gfm_footnote_definitions.iter();
+    let mut parts = Parts::with_least(alloc, text, options, least);
+    let mut count = 0;
+    for number in 0..MOST_PARTS {
+        let Some(part) = next_part(&mut parts)? else {
+            break;
+        };
+        count = number + 1;
+        for event in part.events.iter() {
+            if wanted.next() != Some(event) {
+                return Ok(None);
+            }
+        }
+        for label in part.definitions.iter() {
+            if definitions.next() != Some(label) {
+                return Ok(None);
+            }
+        }
+        for label in part.gfm_footnote_definitions.iter() {
+            if footnotes.next() != Some(label) {
+                return Ok(None);
+            }
+        }
+        parts.reuse(part);
+    }
+    if wanted.next().is_some() || definitions.next().is_some() || footnotes.next().is_some() {
+        return Ok(None);
+    }
+    Ok(Some(count))
+}
+
+// The same; where it is refused memory, once more.
+fn counted(alloc: Global, text: &str, least: usize) -> Result<Option<usize>, Message>
+    requires { IsSmall text.now }
+{
+    match count_parts(alloc, text, &ParseOptions::GFM, least) {
+        Ok(count) => Ok(count),
+        Err(Message) => count_parts(alloc, text, &ParseOptions::GFM, least),
+    }
+}
+
+fn check(rt: &impl Abort, alloc: Global, text: &str, least: usize, want: usize) {
+    assert!(rt; text.len() <= usize::MAX / 8);
+    let count = counted(alloc, text, least);
+    assert!(rt;
+        matches!(count, Ok(Some(all)) if all == want),
+        "{text:?}: {count:?}"
+    );
+}
+
+#[test]
+fn a_text_ends_a_part_before_an_empty_line(rt: HostRuntime) {
+    let alloc = rt.alloc();
+    check(&rt, alloc, "", 1, 0);
+    check(&rt, alloc, "\n", 1, 1);
+    check(&rt, alloc, "a", 1, 1);
+    check(&rt, alloc, "a\n\nb\n\nc", 0, 3);
+    check(&rt, alloc, "a\n\nb\n\nc", 1, 3);
+    check(&rt, alloc, "a\r\n\r\nb\r\rc\n", 1, 3);
+    check(&rt, alloc, "a\n\nb\n\nc\n\nd", 3, 3);
+    check(&rt, alloc, "a\n\nb\n\nc\n\nd", 6, 2);
+    check(&rt, alloc, "# a\n\nb\n\n* * *\n\nc", 5, 2);
+    check(&rt, alloc, "[a]: b\n\nc\n\n[d]: e\n\n[^f]: g\n\nh\n", 1, 4);
+}
+
+#[test]
+fn no_part_ends_in_a_block_or_after_an_item(rt: HostRuntime) {
+    let alloc = rt.alloc();
+    check(&rt, alloc, "- a\n\n- b\n\nc\n\nd", 1, 1);
+    check(&rt, alloc, "- a\n\n- b\n\nc\n\nd", 10, 2);
+    check(&rt, alloc, "> a\n\nb\n\nc", 1, 1);
+    check(&rt, alloc, "> a\n\nb\n\nc", 5, 2);
+    check(&rt, alloc, "```\na\n\nb\n```\n\nc\n\nd", 1, 1);
+    check(&rt, alloc, "```\na\n\nb\n```\n\nc\n\nd", 14, 2);
+    check(&rt, alloc, "<!--\na\n\nb -->\n\nc\n\nd", 1, 1);
+    check(&rt, alloc, "<!--\na\n\nb -->\n\nc\n\nd", 15, 2);
+    check(
+        &rt,
+        alloc,
+        "a\n  \nb\n\nc\n===\n\n| d |\n| - |\n\ne\n\nf",
+        1,
+        2,
+    );
+}
+
+#[test]
+fn the_front_of_a_text_is_a_part(rt: HostRuntime) {
+    let alloc = rt.alloc();
+    check(&rt, alloc, "\u{feff}a\n\nb", 1, 3);
+    check(&rt, alloc, "\u{feff}", 1, 1);
+}
+
+// A text with each construct, and endings of each kind.
+const WHOLE: &str =
+    "\u{feff}# # a #\nb\n> > c\n> d\ne\n\nf\n\n### ##\n***\n- g\r\n\r\n  1. h\n     > i\n- j\n\n\
+    > [!note]\t\n> ~~~ k l\n>  m\n>\nn\n<p\no\n\no\n=\n\n> [P\n> Q]: r 's'\n\n[P]: u\n\t \nv\n=\nw|x\n-|-\n|y\n\n[^Z]: z\r\r\
+    [S]: t\nu\n\n    v\n\n    w\n\nx\n\n\ny\n";
+
+fn check_parts(rt: &impl Abort, alloc: Global, text: &str, least: usize) {
+    assert!(rt; text.len() <= usize::MAX / 8);
+    let count = counted(alloc, text, least);
+    assert!(rt; matches!(count, Ok(Some(_))), "{least}: {count:?}");
+}
+
+#[test]
+fn parts_of_any_size_are_those_of_the_text(rt: HostRuntime) {
+    let alloc = rt.alloc();
+    for least in 0..WHOLE.len() {
+        check_parts(&rt, alloc, WHOLE, least);
+    }
+}
