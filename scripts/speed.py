@@ -268,6 +268,13 @@ EXTENSIONS: dict[str, Callable[[int], str]] = {
     "100,000 blank lines, and nothing that closes it": lambda n: front(100_000 * n, "", ""),
 }
 
+# The same, of references that an inline layer looks up: `examples_references` reads them.
+REFERENCES: dict[str, Callable[[int], str]] = {
+    "100,000 definitions looked up by 100,000 references, twice of each": lambda n: "".join(
+        [f"[{at}]: b\n" for at in range(100_000 * n)] + ["\n"] + [f"a [{at}]\n" for at in range(100_000 * n)]
+    ),
+}
+
 # What is timed: a part, and how often it is repeated.
 TIMED: list[tuple[str, str, list[int]]] = [
     ("MB of paragraphs", PARTS["paragraphs of long lines"] * 8 + "* * *\n\n", [1, 2, 4, 8]),
@@ -292,6 +299,10 @@ def arguments(name: str) -> list[str]:
 def filled(part: str, size: int) -> str:
     """A part again and again, up to this size."""
     return part * max(1, size // len(part))
+
+
+# The program with an inline layer.
+LAYER = ROOT / "crates/examples_references/out/examples_references"
 
 
 class Program:
@@ -384,9 +395,10 @@ def print_growth(program: Program, size: int) -> None:
     """
     head("Text", "Bytes", "Instructions a byte", "Twice the text")
     texts = {name: (filled(part, size // 4), filled(part, size // 4) * 4, 2) for name, part in PARTS.items()}
-    texts |= {name: (make(1), make(2), 1) for name, make in (GROWING | TABLES | EXTENSIONS).items()}
+    texts |= {name: (make(1), make(2), 1) for name, make in (GROWING | TABLES | EXTENSIONS | REFERENCES).items()}
     for name, (once, more, doublings) in texts.items():
-        first, last = (program.by_byte(text, arguments(name)) for text in (once, more))
+        reads = Program(LAYER) if name in REFERENCES else program
+        first, last = (reads.by_byte(text, arguments(name)) for text in (once, more))
         growth = 2 * (last / first) ** (1 / doublings)
         mark = "" if growth <= WANTED else " (!)"
         row(name, f"{len(once):,}", f"{first:,.1f}", f"{growth:.2f} times{mark}")

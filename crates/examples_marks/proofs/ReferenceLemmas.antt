@@ -1,7 +1,10 @@
 -- What the layer finds in a text is a forest over it, and its tokens are those that the code lists.
 use Rattle.std.proofs.Common.{◌≡◌, ℕ, zero, suc, ◌+◌, ◌-◌, ◌<◌, ◌≤◌, Bool, true, false, cond, List, [], ◌∷◌, ◌++◌}
 use Rattle.std.proofs.Common.{length, drop, refl, ap, sym, ◌∙◌, append_assoc, subst, arith}
-use Rattle.std.specs.Prelude.{◌==◌, Option, Some, None}
+use Rattle.std.specs.Prelude.{◌==◌, ◌||◌, Option, Some, None}
+use Rattle.std.specs.List.{list_any, position_from}
+use Rattle.std.specs.Option.{is_some}
+use Rattle.std.specs.Str.{bytes_eq}
 use Rattle.std.proofs.lemmas.Bool.{eqb-true}
 use Rattle.std.proofs.lemmas.List.{append-nil, length-append}
 use Rattle.md_engine.specs.declared.event.Name.{Name}
@@ -11,7 +14,9 @@ use Rattle.md_meaning.specs.Enclosed.{Closed, Open, Broken, Enclosed, enclosed, 
 use Rattle.md_events.specs.declared.inline.PartKind.{PartKind}
 use Rattle.md_events.specs.declared.inline.PartKind.TheVariants as kind
 use Rattle.md_events.specs.Events.Inline.{KeepsFrame}
+use Rattle.md_events.specs.FirstPlace.{first_place}
 use Rattle.md_events.specs.TextPart.{Document}
+use Rattle.md_events.proofs.FirstPlaceLemmas.{from-first}
 use Rattle.md_inline_events.specs.Forest.{Forest, IsForestOf, has_names, nothing, over, part, piece, size}
 use Rattle.md_inline_events.specs.Tokens.{live, is_live, tokens}
 use Rattle.md_inline_events.specs.declared.token.Token.{Token}
@@ -19,12 +24,26 @@ use Rattle.md_inline_events.specs.declared.token.Token.TheVariants as t
 use Rattle.proof_inlines.proofs.ForestLemmas.{woven-keeps}
 use Rattle.proof_inlines.proofs.SizeLemmas.{over-names, over-size, part-size, piece-size}
 use Rattle.examples_marks.specs.Listed.{reference_tokens}
-use Rattle.examples_marks.specs.References.{bracket, defined_len, escaped, found, is_defined, label_len, reference}
-use Rattle.examples_marks.specs.References.{reference_events, reference_forest, references}
+use Rattle.examples_marks.specs.References.{Forms, bracket, defined_len, escaped, found, is_defined, is_listed, label_len}
+use Rattle.examples_marks.specs.References.{reference, reference_events, reference_forest, references}
 use Rattle.examples_marks.specs.declared.found.Found.{Found}
 use Rattle.examples_marks.specs.declared.found.Found.TheVariants.{Text, Reference}
 
 -- Labels.
+
+-- a form that is first somewhere is listed
+some-from : (test : List ℕ → Bool) (at : ℕ) (forms : Forms) → is_some (position_from test at forms) ≡ list_any test forms
+some-from test at [] = refl
+some-from test at (form ∷ forms) = go (test form) (some-from test (at + 1) forms)
+  where
+    go : (x : Bool) → is_some (position_from test (at + 1) forms) ≡ list_any test forms →
+        is_some (cond x (Some at) (position_from test (at + 1) forms)) ≡ (x || list_any test forms)
+    go true rest = refl
+    go false rest = rest
+
+pub listed_first : (forms : Forms) (form : List ℕ) → is_some (first_place forms form) ≡ is_listed forms form
+listed_first forms form =
+    ap is_some (sym (from-first forms form)) ∙ some-from (λ other. bytes_eq other form) 0 forms
 
 -- what is enclosed is before a mark
 enclosed-closed : (opener closer : ℕ) (escaped : Bool) (bs text rest : List ℕ) →
@@ -67,12 +86,12 @@ enclosed-closed opener closer false (b ∷ bs) text rest h =
     go false is false Broken h further = cc
 
 -- a label that is defined has bytes, and a bracket after it
-pub label-fits : (document : Document) (bs : List ℕ) (len : ℕ) → label_len document bs ≡ Some len →
+pub label-fits : (forms : Forms) (bs : List ℕ) (len : ℕ) → label_len forms bs ≡ Some len →
     (0 < len) × (len < length bs)
-label-fits document bs len h =
+label-fits forms bs len h =
     go (enclosed left_bracket right_bracket false bs) h (enclosed-closed left_bracket right_bracket false bs)
   where
-    sized : (label following : List ℕ) → is_defined document label ≡ true → Some (length label) ≡ Some len →
+    sized : (label following : List ℕ) → is_defined forms label ≡ true → Some (length label) ≡ Some len →
         bs ≡ label ++ right_bracket ∷ following → (0 < len) × (len < length bs)
     sized [] following is same whole = let none : false ≡ true = is in cc
     sized (b ∷ label) following is same whole =
@@ -81,17 +100,17 @@ label-fits document bs len h =
         ∙ length-append (b ∷ label) (right_bracket ∷ following) in
         (omega (arith, size), omega (arith, size, long))
 
-    defined : (label following : List ℕ) (x : Bool) → is_defined document label ≡ x →
+    defined : (label following : List ℕ) (x : Bool) → is_defined forms label ≡ x →
         cond x (Some (length label)) None ≡ Some len → bs ≡ label ++ right_bracket ∷ following →
         (0 < len) × (len < length bs)
     defined label following true is same whole = sized label following is same whole
     defined label following false is same whole = cc
 
-    go : (e : Enclosed) → defined_len document e ≡ Some len →
+    go : (e : Enclosed) → defined_len forms e ≡ Some len →
         ((text rest : List ℕ) → e ≡ Closed text rest → bs ≡ text ++ right_bracket ∷ rest) →
         (0 < len) × (len < length bs)
     go (Closed label following) h whole =
-        defined label following (is_defined document label) refl h (whole label following refl)
+        defined label following (is_defined forms label) refl h (whole label following refl)
     go Open h whole = cc
     go Broken h whole = cc
 
@@ -100,9 +119,9 @@ abbrev pub Fits : Found → ℕ → Type 0
 Fits (Text len) size = (0 < len) × (len ≤ suc size)
 Fits (Reference len) size = (0 < len) × (len < size)
 
-pub found-fits : (document : Document) (byte : ℕ) (text : List ℕ) → Fits (found document byte text) (length text)
-found-fits document byte text = go (byte == backslash) (byte == left_bracket) (label_len document text) (label-fits
-    document text)
+pub found-fits : (forms : Forms) (byte : ℕ) (text : List ℕ) → Fits (found forms byte text) (length text)
+found-fits forms byte text = go (byte == backslash) (byte == left_bracket) (label_len forms text) (label-fits
+    forms text)
   where
     escape : (text : List ℕ) → Fits (escaped text) (length text)
     escape [] = (omega arith, omega arith)
@@ -130,29 +149,29 @@ reference-size len following =
       piece-size n.LabelMarker 0 nothing,
     )
 
-references-size : (document : Document) (plain taken : ℕ) (text : List ℕ) → taken ≤ length text →
-    size (references document plain taken text) + taken ≡ plain + length text
-references-size document plain taken [] h = omega (arith, h, over-size n.Data plain nothing)
-references-size document plain (suc taken) (b ∷ text) h =
-    omega (arith, references-size document plain taken text (omega (arith, h)))
-references-size document plain zero (b ∷ text) h =
-    go (found document b text) (found-fits document b text)
-    (λ plain taken k. references-size document plain taken text k)
+references-size : (forms : Forms) (plain taken : ℕ) (text : List ℕ) → taken ≤ length text →
+    size (references forms plain taken text) + taken ≡ plain + length text
+references-size forms plain taken [] h = omega (arith, h, over-size n.Data plain nothing)
+references-size forms plain (suc taken) (b ∷ text) h =
+    omega (arith, references-size forms plain taken text (omega (arith, h)))
+references-size forms plain zero (b ∷ text) h =
+    go (found forms b text) (found-fits forms b text)
+    (λ plain taken k. references-size forms plain taken text k)
   where
     go : (f : Found) → Fits f (length text) →
         ((plain taken : ℕ) → taken ≤ length text →
-        size (references document plain taken text) + taken ≡ plain + length text) →
+        size (references forms plain taken text) + taken ≡ plain + length text) →
         size
         (elim f [
-          | Text len ↦ references document (plain + len) (len - 1) text
-          | Reference len ↦ over n.Data plain (reference len (references document 0 (len + 1) text))
+          | Text len ↦ references forms (plain + len) (len - 1) text
+          | Reference len ↦ over n.Data plain (reference len (references forms 0 (len + 1) text))
         ])
         + 0 ≡
         plain + suc (length text)
     go (Text len) fits rest =
         omega (arith, fits.0, fits.1, rest (plain + len) (len - 1) (omega (arith, fits.1)))
     go (Reference len) fits rest =
-        let later : Forest = references document 0 (len + 1) text in
+        let later : Forest = references forms 0 (len + 1) text in
         omega (
           arith,
           over-size n.Data plain (reference len later),
@@ -165,32 +184,32 @@ reference-names : (len : ℕ) (following : Forest) → has_names following ≡ t
 reference-names zero following h = h
 reference-names (suc more) following h = h
 
-references-names : (document : Document) (plain taken : ℕ) (text : List ℕ) →
-    has_names (references document plain taken text) ≡ true
-references-names document plain taken [] = over-names n.Data plain nothing refl refl
-references-names document plain (suc taken) (b ∷ text) = references-names document plain taken text
-references-names document plain zero (b ∷ text) =
-    go (found document b text) (λ plain taken. references-names document plain taken text)
+references-names : (forms : Forms) (plain taken : ℕ) (text : List ℕ) →
+    has_names (references forms plain taken text) ≡ true
+references-names forms plain taken [] = over-names n.Data plain nothing refl refl
+references-names forms plain (suc taken) (b ∷ text) = references-names forms plain taken text
+references-names forms plain zero (b ∷ text) =
+    go (found forms b text) (λ plain taken. references-names forms plain taken text)
   where
-    go : (f : Found) → ((plain taken : ℕ) → has_names (references document plain taken text) ≡ true) →
+    go : (f : Found) → ((plain taken : ℕ) → has_names (references forms plain taken text) ≡ true) →
         has_names
         (elim f [
-          | Text len ↦ references document (plain + len) (len - 1) text
-          | Reference len ↦ over n.Data plain (reference len (references document 0 (len + 1) text))
+          | Text len ↦ references forms (plain + len) (len - 1) text
+          | Reference len ↦ over n.Data plain (reference len (references forms 0 (len + 1) text))
         ]) ≡
         true
     go (Text len) rest = rest (plain + len) (len - 1)
     go (Reference len) rest =
-        over-names n.Data plain (reference len (references document 0 (len + 1) text)) refl
-        (reference-names len (references document 0 (len + 1) text) (rest 0 (len + 1)))
+        over-names n.Data plain (reference len (references forms 0 (len + 1) text)) refl
+        (reference-names len (references forms 0 (len + 1) text) (rest 0 (len + 1)))
 
-reference-forest : (document : Document) (kind : PartKind) (text : List ℕ) →
-    IsForestOf text (reference_forest document kind text)
-reference-forest document kind.Text text = record {
-  long = omega (arith, references-size document 0 0 text (omega arith));
-  names = references-names document 0 0 text;
+reference-forest : (forms : Forms) (kind : PartKind) (text : List ℕ) →
+    IsForestOf text (reference_forest forms kind text)
+reference-forest forms kind.Text text = record {
+  long = omega (arith, references-size forms 0 0 text (omega arith));
+  names = references-names forms 0 0 text;
 }
-reference-forest document kind.String text = record {
+reference-forest forms kind.String text = record {
   long = omega (arith, over-size n.Data (length text) nothing);
   names = over-names n.Data (length text) nothing refl refl;
 }
@@ -198,15 +217,16 @@ reference-forest document kind.String text = record {
 -- So the layer keeps the promise of every layer.
 pub references-keep : (document : Document) →
     KeepsFrame document.bytes (λ part events. events ≡ reference_events document part)
-references-keep document = woven-keeps document.bytes (reference_forest document) (reference-forest document)
+references-keep document =
+    woven-keeps document.bytes (reference_forest document.definitions) (reference-forest document.definitions)
 
 -- What is taken is left out.
-pub references-taken : (document : Document) (plain taken : ℕ) (text : List ℕ) →
-    references document plain taken text ≡ references document plain 0 (drop taken text)
-references-taken document plain zero [] = refl
-references-taken document plain (suc taken) [] = refl
-references-taken document plain zero (b ∷ text) = refl
-references-taken document plain (suc taken) (b ∷ text) = references-taken document plain taken text
+pub references-taken : (forms : Forms) (plain taken : ℕ) (text : List ℕ) →
+    references forms plain taken text ≡ references forms plain 0 (drop taken text)
+references-taken forms plain zero [] = refl
+references-taken forms plain (suc taken) [] = refl
+references-taken forms plain zero (b ∷ text) = refl
+references-taken forms plain (suc taken) (b ∷ text) = references-taken forms plain taken text
 
 -- Tokens.
 
@@ -229,18 +249,18 @@ tokens-reference : (len : ℕ) (following : Forest) → 0 < len →
 tokens-reference zero following h = absurd (omega (arith, h))
 tokens-reference (suc more) following h = refl
 
-pub reference_step : (document : Document) (plain len byte : ℕ) (following rest left : List ℕ)
-    (done one two total : List Token) → rest ≡ byte ∷ following → Reference len ≡ found document byte following →
+pub reference_step : (forms : Forms) (plain len byte : ℕ) (following rest left : List ℕ)
+    (done one two total : List Token) → rest ≡ byte ∷ following → Reference len ≡ found forms byte following →
     left ≡ drop (len + 1) following → one ≡ done ++ t.Over n.Data plain ∷ [] → two ≡ one ++ reference_tokens len →
-    live done ++ tokens (references document plain 0 rest) ≡ total →
-    live two ++ tokens (references document 0 0 left) ≡ total
-reference_step document plain len byte following rest left done one two total r f l o w all =
-    let later : Forest = references document 0 (len + 1) following in
+    live done ++ tokens (references forms plain 0 rest) ≡ total →
+    live two ++ tokens (references forms 0 0 left) ≡ total
+reference_step forms plain len byte following rest left done one two total r f l o w all =
+    let later : Forest = references forms 0 (len + 1) following in
     let text : List Token = live (t.Over n.Data plain ∷ []) in
     let some : 0 < len = (subst (λ (x : Found). Fits x (length following)) (sym f)
-    (found-fits document byte following)).0 in
-    ap (λ (x : List ℕ). live two ++ tokens (references document 0 0 x)) l
-    ∙ ap (λ (x : Forest). live two ++ tokens x) (sym (references-taken document 0 (len + 1) following))
+    (found-fits forms byte following)).0 in
+    ap (λ (x : List ℕ). live two ++ tokens (references forms 0 0 x)) l
+    ∙ ap (λ (x : Forest). live two ++ tokens x) (sym (references-taken forms 0 (len + 1) following))
     ∙ ap (λ (x : List Token). live x ++ tokens later) (w ∙ ap (λ (x : List Token). x ++ reference_tokens len) o)
     ∙ ap (λ (x : List Token). x ++ tokens later)
     (live-append (done ++ t.Over n.Data plain ∷ []) (reference_tokens len)
@@ -251,18 +271,18 @@ reference_step document plain len byte following rest left done one two total r 
     ∙ ap (λ (x : List Token). live done ++ x) (sym (tokens-over n.Data plain (reference len later)))
     ∙ ap (λ (x : Found). live done ++ tokens
     (elim x [
-      | Text len ↦ references document (plain + len) (len - 1) following
-      | Reference len ↦ over n.Data plain (reference len (references document 0 (len + 1) following))
+      | Text len ↦ references forms (plain + len) (len - 1) following
+      | Reference len ↦ over n.Data plain (reference len (references forms 0 (len + 1) following))
     ])) f
-    ∙ ap (λ (x : List ℕ). live done ++ tokens (references document plain 0 x)) (sym r)
+    ∙ ap (λ (x : List ℕ). live done ++ tokens (references forms plain 0 x)) (sym r)
     ∙ all
 
-pub last_step : (document : Document) (plain : ℕ) (rest : List ℕ) (done all total : List Token) →
-    length rest ≡ 0 → all ≡ done ++ t.Over n.Data plain ∷ [] → live done ++ tokens (references document plain 0 rest)
+pub last_step : (forms : Forms) (plain : ℕ) (rest : List ℕ) (done all total : List Token) →
+    length rest ≡ 0 → all ≡ done ++ t.Over n.Data plain ∷ [] → live done ++ tokens (references forms plain 0 rest)
     ≡ total →
     live all ≡ total
-last_step document plain (b ∷ rest) done all total r a e = absurd (omega (arith, r))
-last_step document plain [] done all total r a e =
+last_step forms plain (b ∷ rest) done all total r a e = absurd (omega (arith, r))
+last_step forms plain [] done all total r a e =
     ap live a ∙ live-append done (t.Over n.Data plain ∷ [])
     ∙ ap (λ (x : List Token). live done ++ x)
     (sym (append-nil (live (t.Over n.Data plain ∷ []))) ∙ sym (tokens-over n.Data plain nothing))
@@ -273,7 +293,7 @@ pub string_tokens : (size : ℕ) → live (t.Over n.Data size ∷ []) ≡ tokens
 string_tokens zero = refl
 string_tokens (suc more) = refl
 
-pub reference_fits : (document : Document) (byte : ℕ) (text : List ℕ) (len : ℕ) →
-    Reference len ≡ found document byte text → len < length text
-reference_fits document byte text len h =
-    (subst (λ (f : Found). Fits f (length text)) (sym h) (found-fits document byte text)).1
+pub reference_fits : (forms : Forms) (byte : ℕ) (text : List ℕ) (len : ℕ) →
+    Reference len ≡ found forms byte text → len < length text
+reference_fits forms byte text len h =
+    (subst (λ (f : Found). Fits f (length text)) (sym h) (found-fits forms byte text)).1

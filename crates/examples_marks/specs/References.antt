@@ -4,6 +4,7 @@ use Rattle.std.specs.Prelude.{count_by, nat_le, not, if◌then◌else◌, List, 
 use Rattle.std.specs.Prelude.{length, map, Option, Some, None}
 use Rattle.std.specs.List.{list_all, list_any}
 use Rattle.std.specs.Str.{bytes_eq}
+use Rattle.std.specs.String.{string_bytes}
 use Rattle.md_engine.specs.declared.event.Event.{Event}
 use Rattle.md_engine.specs.declared.event.Name.TheVariants as n
 use Rattle.md_meaning.specs.Ascii.{backslash, left_bracket, right_bracket, space}
@@ -13,6 +14,7 @@ use Rattle.md_meaning.specs.Lines.{is_ending}
 use Rattle.md_meaning.specs.Rest.{is_white}
 use Rattle.md_events.specs.declared.inline.PartKind.{PartKind}
 use Rattle.md_events.specs.declared.inline.PartKind.TheVariants as kind
+use Rattle.md_events.specs.declared.labels.Labels.{Labels}
 use Rattle.md_events.specs.Events.Inline.{Part}
 use Rattle.md_events.specs.TextPart.{Document}
 use Rattle.md_inline_events.specs.Forest.{Forest, nothing, over, part, piece}
@@ -37,24 +39,30 @@ unended b = if is_ending b then space else b
 abbrev pub on_one_line : List ℕ → List ℕ
 on_one_line text = map unended text
 
+-- the normal forms of the labels of all definitions of a document, as they are looked up
+abbrev pub Forms : Type 0
+Forms = List (List ℕ)
+
+abbrev pub forms_of : Labels → Forms
+forms_of labels = map string_bytes labels.definitions.forms.now
+
 -- whether a normal form is listed
-abbrev pub is_listed : List (List ℕ) → List ℕ → Bool
+abbrev pub is_listed : Forms → List ℕ → Bool
 is_listed forms form = list_any (λ listed. bytes_eq listed form) forms
 
--- whether a text is a label, and its normal form is that of a definition of the document
-abbrev pub is_defined : Document → List ℕ → Bool
-is_defined document text =
-    is_label text && is_listed document.definitions (normal_form (on_one_line text ∷ []))
+-- whether a text is a label, and its normal form is that of a definition
+abbrev pub is_defined : Forms → List ℕ → Bool
+is_defined forms text = is_label text && is_listed forms (normal_form (on_one_line text ∷ []))
 
-abbrev pub defined_len : Document → Enclosed → Option ℕ
-defined_len document (Closed label following) = if is_defined document label then Some (length label) else None
-defined_len document Open = None
-defined_len document Broken = None
+abbrev pub defined_len : Forms → Enclosed → Option ℕ
+defined_len forms (Closed label following) = if is_defined forms label then Some (length label) else None
+defined_len forms Open = None
+defined_len forms Broken = None
 
 -- How many bytes the label has whose `[` is before a text, up to the first `]` that no backslash takes; none if a `[`
 -- is in it that none takes, or no definition has it.
-abbrev pub label_len : Document → List ℕ → Option ℕ
-label_len document text = defined_len document (enclosed left_bracket right_bracket false text)
+abbrev pub label_len : Forms → List ℕ → Option ℕ
+label_len forms text = defined_len forms (enclosed left_bracket right_bracket false text)
 
 -- What is found at the front of a text: so many bytes of text, or a reference whose label has so many bytes. A
 -- backslash
@@ -68,10 +76,10 @@ abbrev pub bracket : Option ℕ → Found
 bracket (Some len) = Reference len
 bracket None = Text 1
 
-abbrev pub found : Document → ℕ → List ℕ → Found
-found document byte following =
+abbrev pub found : Forms → ℕ → List ℕ → Found
+found forms byte following =
     if byte == backslash then escaped following
-    else if byte == left_bracket then bracket (label_len document following)
+    else if byte == left_bracket then bracket (label_len forms following)
     else Text 1
 
 -- Forests.
@@ -83,20 +91,20 @@ reference len following =
     following
 
 -- A text from left to right: so many bytes of text are before it, and so many of its own are already taken.
-abbrev pub references : Document → ℕ → ℕ → List ℕ → Forest
-references document plain taken [] = over n.Data plain nothing
-references document plain (suc taken) (byte ∷ text) = references document plain taken text
-references document plain zero (byte ∷ text) = elim (found document byte text) [
-  | Text len ↦ references document (plain + len) (len - 1) text
-  | Reference len ↦ over n.Data plain (reference len (references document 0 (len + 1) text))
+abbrev pub references : Forms → ℕ → ℕ → List ℕ → Forest
+references forms plain taken [] = over n.Data plain nothing
+references forms plain (suc taken) (byte ∷ text) = references forms plain taken text
+references forms plain zero (byte ∷ text) = elim (found forms byte text) [
+  | Text len ↦ references forms (plain + len) (len - 1) text
+  | Reference len ↦ over n.Data plain (reference len (references forms 0 (len + 1) text))
 ]
 
 -- What the layer finds in the text of a part: its references; in a string there is text alone.
-abbrev pub reference_forest : Document → PartKind → List ℕ → Forest
-reference_forest document kind.Text text = references document 0 0 text
-reference_forest document kind.String text = over n.Data (length text) nothing
+abbrev pub reference_forest : Forms → PartKind → List ℕ → Forest
+reference_forest forms kind.Text text = references forms 0 0 text
+reference_forest forms kind.String text = over n.Data (length text) nothing
 
 -- What the layer answers for a part.
 abbrev pub reference_events : Document → Part → List Event
 reference_events document held =
-    woven_events document.bytes held (reference_forest document held.kind (read_text document.bytes held))
+    woven_events document.bytes held (reference_forest document.definitions held.kind (read_text document.bytes held))

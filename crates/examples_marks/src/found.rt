@@ -1,12 +1,11 @@
 // What is found at the front of a text.
 
 ghost use Rattle.std.specs.Prelude.{◌≡◌, IfOk};
-ghost use Rattle.md_events.specs.TextPart.{document_of};
 ghost use Rattle.examples_marks.specs.References as spec;
 
 use crate::label::label_len;
 use md_engine::message::Message;
-use md_engine::parse_state::ParseState;
+use md_events::labels::Labels;
 use std::alloc::Global;
 
 /// What is at the front of a text.
@@ -23,15 +22,15 @@ pub enum Found {
 /// An `Err` says that memory ran out.
 pub(crate) fn found_at(
     alloc: Global,
-    state: &ParseState,
+    labels: &Labels,
     byte: u8,
     following: &[u8],
 ) -> Result<Found, Message>
-    ensures { IfOk result (λ found. found ≡ spec.found (document_of state.now) byte following.now) }
+    ensures { IfOk result (λ found. found ≡ spec.found (spec.forms_of labels.now) byte following.now) }
 {
     match byte {
         b'\\' => Ok(Found::Text(if following.is_empty() { 1 } else { 2 })),
-        b'[' => match label_len(alloc, state, following)? {
+        b'[' => match label_len(alloc, labels, following)? {
             Some(len) => Ok(Found::Reference(len)),
             None => Ok(Found::Text(1)),
         },

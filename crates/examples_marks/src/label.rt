@@ -1,13 +1,12 @@
 // Labels of references: which text between brackets is a label that a definition of the document has.
 
-ghost use Rattle.std.specs.Prelude.{◌≡◌, IfOk, count_by, map, not, string_bytes};
+ghost use Rattle.std.specs.Prelude.{◌≡◌, IfOk, count_by, not};
 ghost use Rattle.std.specs.List.{list_all};
 ghost use Rattle.md_meaning.specs.Lines.{is_ending};
-ghost use Rattle.md_events.specs.TextPart.{document_of};
 ghost use Rattle.examples_marks.specs.References as spec;
 
 use md_engine::message::Message;
-use md_engine::parse_state::ParseState;
+use md_events::labels::Labels;
 use md_scan::definition::{Enclosed, up_to_mark};
 use md_scan::label::form_of_bytes;
 use md_scan::memory;
@@ -71,42 +70,38 @@ fn on_one_line(alloc: Global, text: &[u8]) -> Result<Vec<u8>, Message>
     Ok(line)
 }
 
-/// Whether a normal form is among those of the labels of all definitions.
-fn is_listed(definitions: &[String], form: &str) -> bool
-    ensures { result ≡ spec.is_listed (map string_bytes definitions.now) form.now }
+/// Whether a normal form is among those of the labels of all definitions. It takes time that grows with the logarithm of
+/// their number.
+fn is_listed(labels: &Labels, form: &str) -> bool
+    ensures { result ≡ spec.is_listed (spec.forms_of labels.now) form.now }
 {
-    for definition in definitions {
-        if definition.as_str() == form {
-            return true;
-        }
-    }
-    false
+    labels.definition(form).is_some()
 }
 
 /// Whether a text is a label, and a definition of the document has it.
 ///
 /// An `Err` says that memory ran out.
-fn is_defined(alloc: Global, state: &ParseState, text: &[u8]) -> Result<bool, Message>
-    ensures { IfOk result (λ is. is ≡ spec.is_defined (document_of state.now) text.now) }
+fn is_defined(alloc: Global, labels: &Labels, text: &[u8]) -> Result<bool, Message>
+    ensures { IfOk result (λ is. is ≡ spec.is_defined (spec.forms_of labels.now) text.now) }
 {
     if !is_label(text) {
         return Ok(false);
     }
     let line = on_one_line(alloc, text)?;
     let form = form_of_bytes(alloc, &[line.as_slice()])?;
-    Ok(is_listed(&state.definitions, &form))
+    Ok(is_listed(labels, &form))
 }
 
 /// How many bytes the label has whose `[` is before this text; none if it is no reference.
 ///
 /// An `Err` says that memory ran out.
-pub fn label_len(alloc: Global, state: &ParseState, text: &[u8]) -> Result<Option<usize>, Message>
-    ensures { IfOk result (λ len. len ≡ spec.label_len (document_of state.now) text.now) }
+pub fn label_len(alloc: Global, labels: &Labels, text: &[u8]) -> Result<Option<usize>, Message>
+    ensures { IfOk result (λ len. len ≡ spec.label_len (spec.forms_of labels.now) text.now) }
 {
     let Enclosed::Closed(label, _) = up_to_mark(b'[', b']', text) else {
         return Ok(None);
     };
-    if is_defined(alloc, state, label)? {
+    if is_defined(alloc, labels, label)? {
         Ok(Some(label.len()))
     } else {
         Ok(None)

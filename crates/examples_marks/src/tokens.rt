@@ -1,17 +1,16 @@
 // The tokens of a text.
 
 ghost use Rattle.std.specs.Prelude.{◌≡◌, ◌++◌, IfOk, OnOk, length};
-ghost use Rattle.md_events.specs.TextPart.{document_of};
 ghost use Rattle.md_inline_events.specs.Forest.{nothing, over};
 ghost use Rattle.md_inline_events.specs.Tokens.{live, tokens};
-ghost use Rattle.examples_marks.specs.References.{reference_forest};
+ghost use Rattle.examples_marks.specs.References.{forms_of, reference_forest};
 ghost use Rattle.examples_marks.specs.Listed.{reference_tokens};
 
 use crate::found::{Found, found_at};
 use md_engine::event::Name;
 use md_engine::message::Message;
-use md_engine::parse_state::ParseState;
 use md_events::inline::PartKind;
+use md_events::labels::Labels;
 use md_inline_events::token::Token;
 use md_scan::memory::push;
 use std::alloc::Global;
@@ -34,15 +33,15 @@ fn push_reference(list: &mut Vec<Token>, len: usize) -> Result<(), Message>
 /// The tokens of the references in a text, and of the text around them.
 ///
 /// An `Err` says that memory ran out.
-fn references(alloc: Global, state: &ParseState, text: &[u8]) -> Result<Vec<Token>, Message>
+fn references(alloc: Global, labels: &Labels, text: &[u8]) -> Result<Vec<Token>, Message>
     ensures { IfOk result
-        (λ list. live list.items ≡ tokens (reference_forest (document_of state.now) PartKind.Text text.now)) }
+        (λ list. live list.items ≡ tokens (reference_forest (forms_of labels.now) PartKind.Text text.now)) }
 {
     let mut list = Vec::new(alloc);
     let mut plain = 0;
     let mut rest = text;
     while let Some((byte, following)) = rest.split_first() {
-        match found_at(alloc, state, *byte, following)? {
+        match found_at(alloc, labels, *byte, following)? {
             Found::Text(len) => {
                 plain += len;
                 rest = following.split_at(len - 1).1;
@@ -78,13 +77,13 @@ pub fn tokens_of(
     alloc: Global,
     kind: PartKind,
     text: &[u8],
-    state: &ParseState,
+    labels: &Labels,
 ) -> Result<Vec<Token>, Message>
     ensures { IfOk result
-        (λ list. live list.items ≡ tokens (reference_forest (document_of state.now) kind text.now)) }
+        (λ list. live list.items ≡ tokens (reference_forest (forms_of labels.now) kind text.now)) }
 {
     match kind {
-        PartKind::Text => references(alloc, state, text),
+        PartKind::Text => references(alloc, labels, text),
         PartKind::String => only_text(alloc, text),
     }
 }

@@ -43,3 +43,5 @@ pub mod PartEvents
 pub mod PartNext
 pub mod PartWhole
 pub mod PartFront
+mod PlacedParts
+mod PartWalk

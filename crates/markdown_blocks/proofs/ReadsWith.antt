@@ -5,7 +5,6 @@ use Rattle.std.specs.List.{list_all}
 use Rattle.std.specs.Str.{IsUtf8}
 use Rattle.std.specs.String.{string_bytes}
 use Rattle.std.proofs.lemmas.List.Elements.{All-append}
-use Rattle.md_engine.specs.declared.event.Content.{Content}
 use Rattle.md_engine.specs.declared.event.Event.{Event}
 use Rattle.md_engine.specs.declared.event.Point.{Point}
 use Rattle.md_engine.specs.declared.parse_state.ParseState.{ParseState}
@@ -22,10 +21,8 @@ use Rattle.md_events.specs.Events.On.{are_on}
 use Rattle.md_events.specs.Events.Spelled.{spelled}
 use Rattle.md_events.specs.Events.Tiles.{Tiles, plain_read}
 use Rattle.md_events.specs.Parts.{ArePlaced}
-use Rattle.md_events.specs.Substituted.{EachAsked, Substituted, stays}
-use Rattle.md_events.specs.TextPart.{AreBlocks, Document, IsTextPart, document_of, text_kind, text_readings, wants_text}
-use Rattle.md_events.specs.declared.inline.Chunk.{Chunk}
-use Rattle.md_events.proofs.AskedBlocks.{asked-following, asked-blocks, substituted-following}
+use Rattle.md_events.specs.Substituted.{Substituted, stays}
+use Rattle.md_events.specs.TextPart.{AreBlocks, Document, document_of, text_readings, wants_text}
 use Rattle.md_events.proofs.HeldLemmas.{blocks-held}
 use Rattle.md_events.proofs.LayerTiles.{substituted-tiles, tiles-cover}
 use Rattle.md_events.proofs.NestsLemmas.{tiles-nested, tiles-placed}
@@ -94,33 +91,26 @@ module _ (state : ParseState) (start : Point) (found : Found) (new : World) (mar
         ahead.flow ahead.items_are;
   }
 
-  -- So the layer may be asked for each text part after the front,
-  pub parts-asked : EachAsked wants_text
-      (λ content chunks. IsTextPart (document_of state) (record { kind = text_kind content; chunks = chunks })) 0 items
-  parts-asked =
-      let asked : Content → List Chunk → Type 0 = λ content chunks.
-      IsTextPart (document_of state) (record { kind = text_kind content; chunks = chunks }) in
-      asked-following wants_text asked mark items
-      (subst (λ (l : List Event). list_all (stays wants_text) l ≡ true) (sym ahead.marks)
-      (front-stays wants_text state.options.now state.bytes.now))
-      (subst (EachAsked wants_text asked 0) (sym blocks-are)
-      (asked-blocks (document_of state) (exact state.options.now state.bytes.now) known))
+  pub blocks-known : AreBlocks (document_of state) (mark ++ items)
+  blocks-known = subst (AreBlocks (document_of state)) (sym blocks-are) known
+
+  -- The layer is asked for no part of the front,
+  pub front-unread : list_all (stays wants_text) mark ≡ true
+  front-unread =
+      subst (λ (l : List Event). list_all (stays wants_text) l ≡ true) (sym ahead.marks)
+      (front-stays wants_text state.options.now state.bytes.now)
 
   -- and what it gives is known in whole.
   pub reads-with : (reads : Document → Part → List Event → Type 0) →
-      KeepsFrame state.bytes.now (reads (document_of state)) → (body events : List Event) →
-      Substituted wants_text (text_readings (reads (document_of state))) [] 0 items body → events ≡ mark ++ body →
+      KeepsFrame state.bytes.now (reads (document_of state)) → (events : List Event) →
+      Substituted wants_text (text_readings (reads (document_of state))) [] 0 (mark ++ items) events →
       IsRead reads state.bytes.now state.options.now events state
-  reads-with reads frame body events substituted is =
+  reads-with reads frame events substituted =
       let bytes : List ℕ = state.bytes.now in
       let blocks : List Event = exact state.options.now bytes in
       let all : Substituted wants_text (text_readings (reads (document_of state))) [] 0 blocks events =
       subst (λ (l : List Event). Substituted wants_text (text_readings (reads (document_of state))) [] 0 l events)
-      blocks-are
-      (subst (Substituted wants_text (text_readings (reads (document_of state))) [] 0 (mark ++ items)) (sym is)
-      (substituted-following wants_text (text_readings (reads (document_of state))) mark items body
-      (subst (λ (l : List Event). list_all (stays wants_text) l ≡ true) (sym ahead.marks)
-      (front-stays wants_text state.options.now bytes)) substituted)) in
+      blocks-are substituted in
       let none : bytes ≡ [] → events ≡ [] = λ empty.
       subst (λ (l : List Event). Substituted wants_text (text_readings (reads (document_of state))) [] 0 l events)
       (has.empty empty) all in

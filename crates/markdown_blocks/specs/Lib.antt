@@ -10,3 +10,4 @@ pub mod TextCalls
 pub mod TextMet
 pub mod PartRead
 pub mod PartsLeft
+pub mod PartPlaces

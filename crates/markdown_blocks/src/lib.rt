@@ -5,9 +5,11 @@ pub mod construct;
 pub mod engine;
 pub mod label;
 pub mod parser;
+mod part_places;
 mod parts;
 pub mod plain;
 pub mod seam;
+mod text_parts;
 
 pub use md_engine::{configuration, event, message, state, subtokenize, table, tokenizer};
 pub use md_events::{inline, names, slice};

@@ -1,12 +1,11 @@
 // From a text to events.
 
-ghost use Rattle.std.specs.Prelude.{◌≡◌, ◌≤◌, ◌++◌, IfOk, OnOk, [], false, length, map, string_bytes};
+ghost use Rattle.std.specs.Prelude.{◌≡◌, ◌≤◌, IfOk, OnOk, [], false, length, map, string_bytes};
 ghost use Rattle.std.specs.List.{prefix_len};
 ghost use Rattle.md_engine.specs.Found.{found_in, nothing};
 ghost use Rattle.md_engine.specs.Place.{IsPlaced};
 ghost use Rattle.md_engine.specs.World.{fresh, world};
 ghost use Rattle.md_content.specs.Joined.{is_content};
-ghost use Rattle.md_events.specs.TextPart.{IsTextPart, document_of, text_kind, wants_text};
 ghost use Rattle.md_registry.specs.Document.{ReadsFront};
 ghost use Rattle.md_registry.specs.Resolving.{lines_joined};
 ghost use Rattle.md_leaves.specs.Spanned.{passes_on};
@@ -25,10 +24,11 @@ ghost use Rattle.md_meaning.specs.Wrapped.{IsSmall};
 
 pub use crate::parts::{Part, Parts};
 use crate::plain::Plain;
+use crate::text_parts::read_text_parts;
 use md_at_once::table::FlowTable;
 use md_content::footnote_labels::footnote_labels;
 use md_engine::configuration::ParseOptions;
-use md_engine::event::{Content, Event, Name, Point};
+use md_engine::event::{Event, Name, Point};
 use md_engine::message::Message;
 pub use md_engine::parse_state::ParseState;
 use md_engine::resolve::Name as ResolveName;
@@ -37,8 +37,7 @@ use md_engine::state::{Name as StateName, State};
 use md_engine::subtokenize::Subresult;
 use md_engine::table::{flush, push};
 use md_engine::tokenizer::Tokenizer;
-use md_events::inline::{Chunk, Inline, PartKind};
-use md_events::subtokenize::{Reader, subtokenize};
+use md_events::inline::Inline;
 use md_events::walks::{Test, passing};
 use md_flow::document::DocumentTable;
 use md_flow::resolve;
@@ -59,59 +58,6 @@ const FIRST_POINT: Point = Point {
     index: 0,
     vs: 0,
 };
-
-/// Reads text parts by an inline layer.
-#[derive(Drop)]
-struct TextReader<'a, 'b, I: Inline> {
-    inline: &'b I,
-    state: &'b ParseState<'a>,
-}
-
-/// What a part of this content may hold.
-fn kind_of(content: Content) -> PartKind
-    ensures { result ≡ text_kind content }
-{
-    match content {
-        Content::Text => PartKind::Text,
-        _ => PartKind::String,
-    }
-}
-
-impl<I: Inline> Reader for TextReader<'_, '_, I> {
-    ghost text = { λ reader. reader.state.now.bytes.now };
-
-    ghost wants = { λ reader. wants_text };
-
-    ghost may_read = { λ reader content chunks. IsTextPart (document_of reader.state.now)
-        (record { kind = text_kind content; chunks = chunks }) };
-
-    ghost reads_as = { λ reader content chunks events. I.reads reader.inline.now (document_of reader.state.now)
-        (record { kind = text_kind content; chunks = chunks }) events };
-
-    fn reads(&self, content: Content) -> bool {
-        matches!(content, Content::Text | Content::String)
-    }
-
-    fn read(
-        &self,
-        alloc: Global,
-        content: Content,
-        chunks: &[Chunk],
-        events: &mut Vec<Event>,
-    ) -> Result<(), Message> {
-        self.inline
-            .read_into(alloc, kind_of(content), chunks, self.state, events)
-    }
-
-    fn plain_text(&self) -> Option<&[u8]> {
-        let TextReader { inline, state } = self;
-        if inline.is_plain() {
-            Some(state.bytes)
-        } else {
-            None
-        }
-    }
-}
 
 /// Takes the byte order mark and the frontmatter at the front of a text, if they are there.
 ///
@@ -467,19 +413,6 @@ pub(crate) fn footnotes_of(
     Ok(Vec::new(alloc))
 }
 
-/// The events of a text: those of its front, and after them all others.
-fn after_front(mut front: Vec<Event>, mut body: Vec<Event>) -> Result<Vec<Event>, Message>
-    ensures { IfOk result (λ events. events.items ≡ front.items ++ body.items) }
-{
-    if front.is_empty() {
-        return Ok(body);
-    }
-    if front.append(&mut body).is_err() {
-        return Err(Message);
-    }
-    Ok(front)
-}
-
 /// Reads a text, its text parts by an inline layer: its events, and what else is known of it.
 ///
 /// The labels of the whole text are known before the layer reads a part. The text has at most `MAX_LEN` bytes, and the
@@ -506,12 +439,7 @@ pub fn parse_with<'a, I: Inline>(
         definitions: found.definitions,
         gfm_footnote_definitions: footnotes,
     };
-    let reader = TextReader {
-        inline,
-        state: &state,
-    };
-    let body = subtokenize(alloc, &reader, tokenizer.events)?;
-    let events = after_front(front.events, body)?;
+    let events = read_text_parts(alloc, inline, &state, front.events, tokenizer.events)?;
     Ok((events, state))
 }
 

@@ -1,15 +1,37 @@
 // What a parse takes, in numbers that are the same on each machine.
 
+ghost use Rattle.markdown_blocks.specs.Parsed.{IsSmall, IsWithoutMdx};
+
+use examples_layer::References;
 use markdown_blocks::event::Event;
 use markdown_blocks::message::Message;
 use markdown_blocks::outline::outline;
-use markdown_blocks::parser::parse;
+use markdown_blocks::parser::{ParseState, parse, parse_with};
 use md_engine::configuration::ParseOptions;
 use md_program::body::Body;
 use md_program::printing::Printing;
 use printing::blocks::Blocks;
 use std::alloc::Global;
 use std::mem::size_of;
+
+/// How a text begins whose parts the layer `References` reads. Those of any other text are read as lines.
+const REFERENCES: &str = "[references]: /\n";
+
+/// The events of a text, and what else is known of it.
+fn read<'a>(
+    alloc: Global,
+    text: &'a str,
+    options: &'a ParseOptions,
+) -> Result<(Vec<Event>, ParseState<'a>), Message>
+    requires size { IsSmall text.now }
+    requires built { IsWithoutMdx options.now }
+{
+    if text.starts_with(REFERENCES) {
+        parse_with(alloc, &References, text, options)
+    } else {
+        parse(alloc, text, options)
+    }
+}
 
 /// Prints how many events a text has, for how many their list has room, how many bytes one takes, and how many lines
 /// the outline has.
@@ -20,7 +42,7 @@ impl Printing for Cost {
 
     fn output(alloc: Global, text: &str, options: ParseOptions) -> Result<String, Message> {
         let options = Blocks::built(options);
-        let (events, state) = parse(alloc, text, &options)?;
+        let (events, state) = read(alloc, text, &options)?;
         let lines = outline(alloc, &events, &state)?;
         let mut numbers = String::new(alloc);
         write!(

@@ -6,9 +6,9 @@ use Rattle.md_engine.specs.declared.parse_state.ParseState.{ParseState}
 use Rattle.md_events.specs.TextPart.{document_of}
 use Rattle.proof_container_laws.specs.Footnotes.{footnotes_listed}
 use Rattle.markdown_blocks.specs.Parsed.{IsRead}
-use Rattle.markdown_blocks.proofs.ReadsWith.{IsAhead, parts-asked, reads-with}
+use Rattle.markdown_blocks.proofs.ReadsWith.{IsAhead, blocks-known, front-unread, reads-with}
 use Rattle.markdown_blocks.proofs.parser.parse_with.Given.{Over}
-use Rattle.markdown_blocks.proofs.parser.parse_with.Goals.{After-reader-1}
+use Rattle.markdown_blocks.proofs.parser.parse_with.Goals.{After-state-1}
 use Rattle.markdown_blocks.proofs.parser.parse_with.Goals as goal
 
 pub read_front-requires : goal.read_front-requires
@@ -27,14 +27,14 @@ read_flow-requires-clause-built g c = c.requires.built
 pub read_flow-requires-clause-begins : goal.read_flow-requires-clause-begins
 read_flow-requires-clause-begins g c = c.in_ok-front.ensures.reads.point
 
-pub subtokenize-requires-clause-placed : goal.subtokenize-requires-clause-placed
-subtokenize-requires-clause-placed g c =
+pub read_text_parts-requires-clause-placed : goal.read_text_parts-requires-clause-placed
+read_text_parts-requires-clause-placed g c =
     let same : c.in_ok-tokenizer.tokenizer.bytes.now ≡
     c.as_bytes-bytes.result.now = ap (λ (x : Setting). x.bytes) c.in_ok-tokenizer.ensures.setting in
     rw same at c.in_ok-tokenizer.tokenizer.sound.right
 
 -- the state that the layer is said
-abbrev state_of : (g : Over) → After-reader-1 g → ParseState
+abbrev state_of : (g : Over) → After-state-1 g → ParseState
 state_of g c = record {
   options = c.args.options;
   bytes = c.as_bytes-bytes.result;
@@ -43,7 +43,7 @@ state_of g c = record {
 }
 
 -- what is known before it reads a part
-is-ahead : (g : Over) (c : After-reader-1 g) →
+is-ahead : (g : Over) (c : After-state-1 g) →
     IsAhead (state_of g c) c.in_ok-front.front.point (found_in c.in_ok-tokenizer.found)
     (world c.in_ok-tokenizer.tokenizer) c.in_ok-front.front.events.items c.in_ok-tokenizer.tokenizer.events.items
 is-ahead g c =
@@ -68,15 +68,21 @@ is-ahead g c =
           ∙ ap (footnotes_listed c.args.options.now bytes) c.deref.ensures.value;
     }
 
-pub subtokenize-requires-clause-asked : goal.subtokenize-requires-clause-asked
-subtokenize-requires-clause-asked g c =
-    parts-asked (state_of g c) c.in_ok-front.front.point (found_in c.in_ok-tokenizer.found)
+pub read_text_parts-requires-clause-are : goal.read_text_parts-requires-clause-are
+read_text_parts-requires-clause-are g c =
+    blocks-known (state_of g c) c.in_ok-front.front.point (found_in c.in_ok-tokenizer.found)
+    (world c.in_ok-tokenizer.tokenizer) c.in_ok-front.front.events.items c.in_ok-tokenizer.tokenizer.events.items
+    (is-ahead g c)
+
+pub read_text_parts-requires-clause-front : goal.read_text_parts-requires-clause-front
+read_text_parts-requires-clause-front g c =
+    front-unread (state_of g c) c.in_ok-front.front.point (found_in c.in_ok-tokenizer.found)
     (world c.in_ok-tokenizer.tokenizer) c.in_ok-front.front.events.items c.in_ok-tokenizer.tokenizer.events.items
     (is-ahead g c)
 
 pub returns : goal.returns
 returns g c =
-    let before : After-reader-1 g = (goal.at.returns g c).After-reader-1 in
+    let before : After-state-1 g = (goal.at.returns g c).After-state-1 in
     let state : ParseState = state_of g before in
     subst
     (λ (l : List ℕ).
@@ -85,5 +91,5 @@ returns g c =
     (reads-with state c.in_ok-front.front.point (found_in c.in_ok-tokenizer.found) (world c.in_ok-tokenizer.tokenizer)
     c.in_ok-front.front.events.items c.in_ok-tokenizer.tokenizer.events.items (is-ahead g before)
     (g.I.Inline.reads c.args.inline.now)
-    (g.met.I.Inline.keeps_frame c.args.inline.now (document_of state)) c.in_ok-body.body.items
-    c.in_ok-events.events.items c.in_ok-body.ensures.substituted c.in_ok-events.ensures)
+    (g.met.I.Inline.keeps_frame c.args.inline.now (document_of state)) c.in_ok-events.events.items
+    c.in_ok-events.ensures)

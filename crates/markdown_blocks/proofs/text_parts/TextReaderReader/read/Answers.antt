@@ -5,7 +5,7 @@ use Rattle.md_events.specs.declared.inline.PartKind.{PartKind}
 use Rattle.md_events.specs.Events.Inline.{Part}
 use Rattle.md_events.specs.TextPart.{Document, IsTextPart, document_of}
 use Rattle.md_events.proofs.TextParts.{placed-events, text-part}
-use Rattle.markdown_blocks.proofs.parser.TextReaderReader.read.Goals as goal
+use Rattle.markdown_blocks.proofs.text_parts.TextReaderReader.read.Goals as goal
 
 pub read_into-requires : goal.read_into-requires
 read_into-requires g c =

@@ -1,7 +1,7 @@
 use Rattle.md_events.specs.Events.Inline.{Part}
 use Rattle.md_events.specs.TextPart.{Document, document_of, text_kind}
 use Rattle.md_events.proofs.TextParts.{text-lines}
-use Rattle.markdown_blocks.proofs.parser.TextReaderReader.plain_text.Goals as goal
+use Rattle.markdown_blocks.proofs.text_parts.TextReaderReader.plain_text.Goals as goal
 
 pub returns-then-is_plain-clause-lines : goal.returns-then-is_plain-clause-lines
 returns-then-is_plain-clause-lines g c = λ content chunks is.

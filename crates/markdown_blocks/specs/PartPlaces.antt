@@ -1,0 +1,45 @@
+-- Where each text part of a document is, in the order of the text.
+use Rattle.std.specs.Prelude.{ℕ, zero, suc, ◌<◌, Bool, false, ◌&&◌, not, if◌then◌else◌, List, [], ◌∷◌, ◌++◌, length}
+use Rattle.std.specs.Prelude.{get_or, Option, Some}
+use Rattle.md_engine.specs.declared.event.Event.{Event}
+use Rattle.md_events.specs.declared.inline.PartPlace.{PartPlace}
+use Rattle.md_events.specs.Events.Inline.{Part, is_linked, is_none, pieces}
+use Rattle.md_events.specs.Events.Nested.{is_exit}
+use Rattle.md_events.specs.Events.Tiles.{chunks, inside_part, is_part}
+use Rattle.md_events.specs.TextPart.{Document, IsTextPartAt, is_of_block, place_by}
+
+-- whether a chunk begins with an event inside of a text part, by the events after it
+abbrev pub begins_chunk : Event → List Event → Bool
+begins_chunk e [] = false
+begins_chunk e (f ∷ es) = not (is_exit e.kind) && is_linked e && is_exit f.kind && not (is_part f.name)
+
+-- whether a text part has a chunk, by the events after the one with which it begins
+abbrev pub holds_chunk : List Event → Bool
+holds_chunk es = not (is_none (chunks (pieces (inside_part es))))
+
+-- whether a text part that has a chunk begins with an event: a layer reads no other
+abbrev pub begins_part : Event → List Event → Bool
+begins_part e es = not (is_exit e.kind) && is_part e.name && holds_chunk es
+
+-- the last event of a block, an event later
+abbrev pub last_after : Option Event → Event → Option Event
+last_after last e = if is_of_block e then Some e else last
+
+-- where the text part is that begins with an event, if one does, by the last event of a block before it
+abbrev pub places_at : Option Event → Event → List Event → List PartPlace
+places_at last e es = if begins_part e es then place_by last e.name ∷ [] else []
+
+-- where the text parts are that begin among some events, by the last event of a block before these
+abbrev pub part_places : Option Event → List Event → List PartPlace
+part_places last [] = []
+part_places last (e ∷ es) = places_at last e es ++ part_places (last_after last e) es
+
+-- A part of a document is at the next of some places, of which so many are taken.
+pub record IsNext (document : Document) (places : List PartPlace) (taken : ℕ) (part : Part) : Type 0 where
+  pub within : taken < length places
+  pub at : (other : PartPlace) → IsTextPartAt document part (get_or places taken other)
+
+-- how many are taken once a part is begun, unless so many chunks of another part are left
+abbrev pub taken_after : ℕ → ℕ → ℕ
+taken_after zero taken = suc taken
+taken_after (suc more) taken = taken
