@@ -7,6 +7,7 @@
 # - `blocks` prints the outline of a line of 1,000,000 `*`, of one of as many spaces, and of 100,000 empty lines.
 # - `plain_blocks` prints the outline of 2,000 containers in one another, on one line and on two, the second of which closes them. The
 #   outlines are written here.
+# - `plain_inlines` prints the inline content of 400 images in one another, and of emphasis 400 deep. The printed forms are written here.
 # - The same with requests for memory refused, every 61st in turn, alone and with all that follow (`scripts/refuse.c`): the program then
 #   ends with status 3, says so and prints nothing, so that what it holds by then is let go without stack too.
 set -euo pipefail
@@ -23,11 +24,33 @@ LIBRARY = sys.argv[1]
 FOLDER = os.environ.get("PROGRAMS")
 STACK = 256 * 1024
 LEVELS = 2000
+DEEP = 400
 
 # A marker, and the words of the outline that it opens.
 MARKERS = {"> ": ["quote"], "- ": ["list -", "item"], "> 1. ": ["quote", "list .", "item"]}
 
-REFUSED = (3, b"", b"plain_blocks: out of memory\n")
+# What is before a text and after it, and how a part around a forest is printed: lines with their depths, first those before the forest,
+# which is as deep as their number says, and then those after it.
+INLINE = [
+    ("*a ", " a*", [(0, "Emphasis"), (1, "EmphasisSequence | *"), (1, "EmphasisText"), (2, "Data | a "), 2, (2, "Data |  a"), (1, "EmphasisSequence | *")]),
+    ("![", "](b)", [
+        (0, "Image"), (1, "Label"), (2, "LabelImage"), (3, "LabelImageMarker | !"), (3, "LabelMarker | ["), (2, "LabelText"), 3,
+        (2, "LabelEnd"), (3, "LabelMarker | ]"), (1, "Resource"), (2, "ResourceMarker | ("), (2, "ResourceDestination"),
+        (3, "ResourceDestinationRaw"), (4, "ResourceDestinationString"), (5, "Data | b"), (2, "ResourceMarker | )"),
+    ]),
+]
+# how "`c`" is printed
+CODE = [(0, "CodeText"), (1, "CodeTextSequence | `"), (1, "CodeTextData | c"), (1, "CodeTextSequence | `")]
+
+
+def printed(words):
+    """The printed form of so many such parts in one another, around a code span."""
+    inner, place = next((word, place) for place, word in enumerate(words) if isinstance(word, int))
+    levels = range(DEEP)
+    lines = [(inner * level + depth, word) for level in levels for depth, word in words[:place]]
+    lines += [(inner * DEEP + depth, word) for depth, word in CODE]
+    lines += [(inner * level + depth, word) for level in reversed(levels) for depth, word in words[place + 1:]]
+    return "".join("  " * depth + word + "\n" for depth, word in lines)
 
 
 def program(name):
@@ -47,27 +70,27 @@ def outline(words, last):
     return "".join("  " * depth + word + "\n" for depth, word in enumerate(words)) + last + "\ndefinitions 0\nfootnotes 0\n"
 
 
-def refuse(text, number):
+def refuse(name, text, number):
     """A run whose requests are refused as the number says, and whether one was."""
     readable, writable = os.pipe()
-    ended = run([program("plain_blocks")], text, {"LD_PRELOAD": LIBRARY, "REFUSE": number, "REFUSED_TO": str(writable)}, [writable])
+    ended = run([program(name)], text, {"LD_PRELOAD": LIBRARY, "REFUSE": number, "REFUSED_TO": str(writable)}, [writable])
     os.close(writable)
     with open(readable, "rb") as requests:
         return ended, b"r" in requests.read()
 
 
-def check_outline(text, wanted):
+def check_outline(name, text, wanted):
     """Compares the outline of a text, and refuses requests for memory."""
     right = (0, wanted.encode(), b"")
-    if run([program("plain_blocks")], text) != right:
-        sys.exit(f"plain_blocks on {text[:20]!r}..: not its outline with {STACK} bytes of stack")
+    if run([program(name)], text) != right:
+        sys.exit(f"{name} on {text[:20]!r}..: not its outline with {STACK} bytes of stack")
     runs = 0
     for following in ("", "+"):
         number = 1
         while True:
-            ended, is_refused = refuse(text, f"{number}{following}")
-            if ended != (REFUSED if is_refused else right):
-                sys.exit(f"plain_blocks on {text[:20]!r}.., request {number}{following} refused: status {ended[0]}, {ended[2]}")
+            ended, is_refused = refuse(name, text, f"{number}{following}")
+            if ended != ((3, b"", f"{name}: out of memory\n".encode()) if is_refused else right):
+                sys.exit(f"{name} on {text[:20]!r}.., request {number}{following} refused: status {ended[0]}, {ended[2]}")
             if not is_refused:
                 break
             number, runs = number + 61, runs + 1
@@ -84,9 +107,12 @@ runs = 0
 for marker, words in MARKERS.items():
     line = marker * (LEVELS // len(words)) + "a\n"
     words = words * (LEVELS // len(words))
-    runs += check_outline(line, outline(words, ""))
-    runs += check_outline(line + "\nb\n", outline(words, "paragraph\n  | b\n"))
-print(f"depth: {len(MARKERS)} kinds of markers, {LEVELS} levels, {runs} runs refused memory")
-if runs < 100:
-    sys.exit("not at least 100 runs refused memory")
+    runs += check_outline("plain_blocks", line, outline(words, ""))
+    runs += check_outline("plain_blocks", line + "\nb\n", outline(words, "paragraph\n  | b\n"))
+inner = runs
+for before, after, words in INLINE:
+    runs += check_outline("plain_inlines", before * DEEP + "`c`" + after * DEEP, printed(words))
+print(f"depth: {len(MARKERS)} kinds of markers, {LEVELS} levels, {len(INLINE)} inline constructs, {DEEP} deep, {runs} runs refused memory")
+if inner < 100 or runs - inner < 20:
+    sys.exit("not at least 100 and 20 runs refused memory")
 PYTHON

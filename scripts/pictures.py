@@ -15,7 +15,7 @@ TEXTS = ("Data", "CodeFlowChunk", "MathFlowChunk", "HtmlFlowData", "FrontmatterC
 
 # The groups of crates, from the top: each depends on those below it.
 GROUPS = (
-    ("Tests and the reference program", r"test_.*|reference_(?!inlines).*|plain_blocks",
+    ("Tests and the reference program", r"test_.*|reference_(?!inlines).*|plain_.*",
      "what compares definitions, programs and the library with each other"),
     ("Programs and examples", r"md_program|printing|html_blocks|blocks|events|hoxalgurre|hoxalgurre_c|examples_.*",
      "what users run, link or copy"),

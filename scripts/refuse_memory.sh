@@ -9,13 +9,13 @@
 # A refused run ends with status 3 and prints nothing, and the last run prints what is given here. The states that take
 # no memory
 #   answer while each request is refused.
-# - Of `blocks`, `events`, `plain_blocks` and `examples_references`, those of the whole program: on the texts of their
-# stored runs, and
+# - Of `blocks`, `events`, `plain_blocks`, `plain_inlines` and `examples_references`, those of the whole program: on the
+# texts of their stored runs, and
 # the first two with the argument `alerts` on each begin of a text with a byte order mark, frontmatter, headings of both
 # kinds,
 # quotes, a break, nested lists, an alert with a fence, HTML, definitions, in a quote and before an underline, a table
 # and a
-# footnote definition; the third on that text. The fourth parses its text with an inline layer, wraps it in a quote and
+# footnote definition; the third on that text; `plain_inlines` on a text with each inline construct. The last parses its text with an inline layer, wraps it in a quote and
 # in an item,
 # and parses both; a reference in it goes over two lines of a quote, and is defined after it. A refused run ends with
 # status 3, says
@@ -41,7 +41,7 @@ library = sys.argv[1]
 FOLDER = os.environ.get("PROGRAMS")
 
 # The refused runs of each program that there are at least.
-PROGRAMS = {"blocks": 4000, "events": 4000, "plain_blocks": 100, "examples_references": 300}
+PROGRAMS = {"blocks": 4000, "events": 4000, "plain_blocks": 100, "plain_inlines": 300, "examples_references": 300}
 LEAST_REPORTS = 600
 
 # The sizes of the requests of `test_library` before and after its call.
@@ -194,6 +194,12 @@ footnotes 1
 """
 
 
+# Each inline construct, in the first paragraph of an item.
+INLINE = (b"[x] *a **b** _c_* ~~d~~ `e` $f$ <g:h> <i@j.k> <l m='n'> \\* &amp; &#35; &#x22; www.o.p q@r.s mailto:t@u.v\n"
+          b"w  \nx\\\n[y *z*](<a> 'b\\c') ![d](e) [f][ G\nh ] [i][] [i] [j][k] [^l] [m [n](o) p](q) [r\n\n"
+          b"=g h\n=i\n^l\n-\n")
+
+
 def program(name):
     return f"{FOLDER}/{name}" if FOLDER else f"crates/{name}/out/{name}"
 
@@ -259,7 +265,8 @@ def texts_of(name):
     stored = [(open(f"crates/{name}/stdin", "rb").read(), open(f"crates/{name}/stdout", "rb").read())]
     begins = [(WHOLE[:length], None) for length in range(3, len(WHOLE))]
     whole = (WHOLE, None if name == "events" else OUTLINE)
-    return stored + {"blocks": [*begins, whole], "events": [*begins, whole], "plain_blocks": [whole]}.get(name, [])
+    tried = {"blocks": [*begins, whole], "events": [*begins, whole], "plain_blocks": [whole], "plain_inlines": [(INLINE, None)]}
+    return stored + tried.get(name, [])
 
 
 # Each task: what it belongs to, and the call that does it.

@@ -38,9 +38,9 @@ take-short : (k : ℕ) (xs : List ℕ) → length (take k xs) ≤ length xs
 take-short k xs = omega (arith, length-take k xs)
 
 -- A literal has some bytes, and no more than its text.
-record InText (text : List ℕ) (found : Literal) : Type 0 where
-  some : 0 < found.len
-  within : found.len ≤ length text
+pub record InText (text : List ℕ) (found : Literal) : Type 0 where
+  pub some : 0 < found.len
+  pub within : found.len ≤ length text
 
 same-in : (text : List ℕ) (f g : Literal) → Some f ≡ Some g → InText text f → InText text g
 same-in text f g h is =
@@ -202,7 +202,7 @@ resource-within text =
     go true e false = omega arith
     go false e y = omega arith
 
-email-at-is : (before text : List ℕ) (found : Literal) → email_at before text ≡ Some found → InText text found
+pub email-at-is : (before text : List ℕ) (found : Literal) → email_at before text ≡ Some found → InText text found
 unfolding email_at
 email-at-is before text found is =
     go (not (may_follow before)) (starts_in_any_case text (codes "mailto:"))

@@ -9,19 +9,21 @@ use Rattle.md_inlines.specs.Atoms.{merged}
 use Rattle.md_inlines.specs.Brackets as brackets
 use Rattle.md_inlines.specs.Content.{forest_after}
 use Rattle.md_inlines.specs.Emails.{with_emails}
-use Rattle.md_inlines.specs.Emphasis.{emphasis}
+use Rattle.md_inlines.specs.Emphasis.{Item, emphasis}
 use Rattle.md_inlines.specs.Targets.{string_atom}
 use Rattle.reference_inlines.specs.Leading.{string_parts}
 use Rattle.reference_inlines.specs.Merged.{merged_onto}
 use Rattle.reference_inlines.specs.Nodes.{len_of_all, nodes}
 use Rattle.reference_inlines.specs.Reading.{level_nodes}
 use Rattle.reference_inlines.specs.Rounds.{emphasis_nodes}
+use Rattle.reference_inlines.specs.Searched.{addressed, searched}
 use Rattle.reference_inlines.specs.declared.node.Node.{Node}
 use Rattle.reference_inlines.specs.declared.node.Node.TheVariants as node
 use Rattle.reference_inlines.proofs.LeadingLemmas.{atom-some, string-found, string-plain}
 use Rattle.reference_inlines.proofs.MergedLemmas.{merged-nodes}
 use Rattle.reference_inlines.proofs.ReadingLemmas.{size-nodes}
 use Rattle.reference_inlines.proofs.RoundLemmas.{emphasis-nodes}
+use Rattle.reference_inlines.proofs.SearchedLemmas.{searched-nodes}
 
 -- A loop over a string.
 
@@ -64,31 +66,36 @@ plain-goes options text rest made list b following is h list_is before =
     ∙ ap (λ l. made ++ l) (sym (string-plain options b following here))
     ∙ ap (λ (l : List ℕ). made ++ nodes (string_parts options l)) (sym is) ∙ before
 
-module _ (options : InlineOptions) (is_definition is_footnote : List ℕ → Bool) where
-  -- without addresses
-  pub content-nodes : (text : List ℕ) (start : ℕ) → options.constructs.gfm_autolink_literal ≡ false →
+module _ (options : InlineOptions) (is_definition is_footnote : List ℕ → Bool) (text : List ℕ) (start : ℕ) where
+  abbrev items : List Item
+  items =
+      (brackets.content options is_definition is_footnote (length (drop start text)) false (take start text)
+      (drop start text)).items
+
+  abbrev read : Forest
+  read = merged (emphasis options.gfm_strikethrough_single_tilde items)
+
+  -- before addresses are searched
+  abbrev pub read_nodes : List Node
+  read_nodes =
       merged_onto
       (emphasis_nodes options.gfm_strikethrough_single_tilde
-      (level_nodes options is_definition is_footnote text start)) [] ≡
-      nodes (forest_after options is_definition is_footnote (take start text) (drop start text))
-  content-nodes text start off = go options.constructs.gfm_autolink_literal off
-    where
-      list : Forest
-      list =
-          emphasis options.gfm_strikethrough_single_tilde
-          (brackets.content options is_definition is_footnote (length (drop start text)) false (take start text)
-          (drop start text)).items
+      (level_nodes options is_definition is_footnote text start)) []
 
-      go : (t : Bool) → t ≡ false →
-          merged_onto
-          (emphasis_nodes options.gfm_strikethrough_single_tilde
-          (level_nodes options is_definition is_footnote text start)) [] ≡
-          nodes (cond t (merged (with_emails (take start text) (drop start text) (merged list))) (merged list))
-      go true e = cc
-      go false e =
-          ap (λ l. merged_onto l [])
-          (sym
-          (emphasis-nodes options.gfm_strikethrough_single_tilde
-          (brackets.content options is_definition is_footnote (length (drop start text)) false (take start text)
-          (drop start text)).items))
-          ∙ sym (merged-nodes list)
+  read-is : read_nodes ≡ nodes read
+  read-is =
+      ap (λ l. merged_onto l []) (sym (emphasis-nodes options.gfm_strikethrough_single_tilde items))
+      ∙ sym (merged-nodes (emphasis options.gfm_strikethrough_single_tilde items))
+
+  pub content-nodes : addressed options text start read_nodes ≡
+      nodes (forest_after options is_definition is_footnote (take start text) (drop start text))
+  content-nodes = go options.constructs.gfm_autolink_literal
+    where
+      go : (t : Bool) →
+          cond t (merged_onto (searched text 0 start read_nodes) []) read_nodes ≡
+          nodes (cond t (merged (with_emails (take start text) (drop start text) read)) read)
+      go true =
+          ap (λ (l : List Node). merged_onto (searched text 0 start l) []) read-is
+          ∙ ap (λ (l : List Node). merged_onto l []) (searched-nodes text read start)
+          ∙ sym (merged-nodes (with_emails (take start text) (drop start text) read))
+      go false = read-is

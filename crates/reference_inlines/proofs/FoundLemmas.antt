@@ -4,7 +4,8 @@ use Rattle.std.specs.Prelude.{◌==◌}
 use Rattle.std.proofs.lemmas.Bool.Decides.{nat_tests}
 use Rattle.md_engine.specs.declared.event.Name.{Name}
 use Rattle.md_engine.specs.declared.event.Name.TheVariants as n
-use Rattle.md_inlines.specs.Atoms.{angled, raw, reference}
+use Rattle.md_inline_events.specs.Forest.{nothing, over}
+use Rattle.md_inlines.specs.Atoms.{angled, literal_name, raw, reference}
 use Rattle.reference_inlines.specs.Found.{angled_shape, atom_forest, raw_shape, reference_shape, shape}
 use Rattle.reference_inlines.specs.Nodes.{kept, nodes}
 use Rattle.reference_inlines.specs.declared.atom.Atom.{Atom}
@@ -51,6 +52,10 @@ reference-shape (suc (suc more)) value =
     ap (λ (t : Bool). kept (numbered (cond t 0 1) (suc (suc more) - 1) value)) some
     ∙ ap (λ (k : ℕ). kept (numbered 1 k value)) less ∙ hexadecimal-shape more value
 
+one-shape : (name : Name) (len : ℕ) → kept (node.Piece name len ∷ []) ≡ nodes (over name len nothing)
+one-shape name zero = refl
+one-shape name (suc more) = refl
+
 pub shape-is : (atom : Atom) → kept (shape atom) ≡ nodes (atom_forest atom)
 shape-is a.Escape = refl
 shape-is a.BreakEscape = refl
@@ -67,3 +72,4 @@ shape-is (a.Trailing zero zero) = refl
 shape-is (a.Trailing zero (suc spaces)) = refl
 shape-is (a.Trailing (suc white) zero) = refl
 shape-is (a.Trailing (suc white) (suc spaces)) = refl
+shape-is (a.Literal l) = one-shape (literal_name l.kind) l.len

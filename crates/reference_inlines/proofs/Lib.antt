@@ -6,4 +6,5 @@ pub mod RoundLemmas
 pub mod LeadingLemmas
 pub mod StateLemmas
 pub mod ReadingLemmas
+pub mod SearchedLemmas
 pub mod ContentLemmas

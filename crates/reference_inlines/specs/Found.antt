@@ -5,7 +5,7 @@ use Rattle.md_engine.specs.declared.event.Name.TheVariants as n
 use Rattle.md_inline_events.specs.Forest.{Forest, nothing, over, part}
 use Rattle.md_inlines.specs.declared.Raw.{Raw}
 use Rattle.md_inlines.specs.declared.Reference.{Reference}
-use Rattle.md_inlines.specs.Atoms.{angled, byte, escape, raw, reference}
+use Rattle.md_inlines.specs.Atoms.{address, angled, byte, escape, literal_name, raw, reference}
 use Rattle.reference_inlines.specs.declared.atom.Atom.{Atom}
 use Rattle.reference_inlines.specs.declared.atom.Atom.TheVariants as a
 use Rattle.reference_inlines.specs.declared.node.Node.{Node}
@@ -22,6 +22,7 @@ atom_forest (a.Uri len) = angled n.AutolinkProtocol len
 atom_forest (a.Email len) = angled n.AutolinkEmail len
 atom_forest (a.Html len) = part n.HtmlText (over n.HtmlTextData len nothing) nothing
 atom_forest (a.Trailing white spaces) = over n.SpaceOrTab white (over n.HardBreakTrailing spaces nothing)
+atom_forest (a.Literal l) = address l
 
 abbrev pub found : Option Atom → Option Forest
 found atom = option_map atom_forest atom
@@ -58,3 +59,4 @@ shape (a.Uri len) = angled_shape n.AutolinkProtocol len
 shape (a.Email len) = angled_shape n.AutolinkEmail len
 shape (a.Html len) = node.Begin n.HtmlText ∷ node.Piece n.HtmlTextData len ∷ node.End ∷ []
 shape (a.Trailing white spaces) = node.Piece n.SpaceOrTab white ∷ node.Piece n.HardBreakTrailing spaces ∷ []
+shape (a.Literal l) = node.Piece (literal_name l.kind) l.len ∷ []

@@ -1,7 +1,8 @@
-// What binds tightest at the front of a text (CommonMark 2.4, 2.5, 6.1, 6.5, 6.6, 6.7, 6.8).
+// What binds tightest at the front of a text (CommonMark 2.4, 2.5, 6.1, 6.5, 6.6, 6.7, 6.8, GFM 6.9).
 
-ghost use Rattle.std.specs.Prelude.{◌≡◌, ◌++◌, false, IfOk, OnOk};
+ghost use Rattle.std.specs.Prelude.{◌≡◌, ◌++◌, IfOk, OnOk, option_map};
 ghost use Rattle.md_inlines.specs.Atoms as inlines;
+ghost use Rattle.md_inlines.specs.Literal.{literal_at};
 ghost use Rattle.md_inlines.specs.Targets as targets;
 ghost use Rattle.reference_inlines.specs.Found as spec;
 ghost use Rattle.reference_inlines.specs.Found.{found};
@@ -15,7 +16,8 @@ use md_inline_scan::breaks::{break_len, is_break_escape, trailing_len};
 use md_inline_scan::code::raw_at;
 use md_inline_scan::escape::{is_escape, reference_at};
 use md_inline_scan::html::after_html;
-use md_inlines::{InlineOptions, Raw, Reference};
+use md_inline_scan::literal::literal_at;
+use md_inlines::{InlineOptions, Literal, LiteralKind, Raw, Reference};
 use md_scan::bytes::run_len;
 use std::alloc::Global;
 
@@ -36,6 +38,8 @@ pub(crate) enum Atom {
     Html(usize),
     /// So many spaces and tabs before the end of a line, and so many spaces that make a hard break.
     Trailing(usize, usize),
+    /// An address without angle brackets.
+    Literal(Literal),
 }
 
 fn when(on: bool, atom: Option<Atom>) -> Option<Atom>
@@ -156,6 +160,16 @@ fn trailing_at(hard: bool, text: &[u8]) -> Option<Atom>
     }
 }
 
+/// An address without angle brackets, after another text.
+fn address_at(before: &[u8], text: &[u8]) -> Option<Atom>
+    ensures { found result ≡ option_map inlines.address (literal_at before.now text.now) }
+{
+    match literal_at(before, text) {
+        Some(literal) => Some(Atom::Literal(literal)),
+        None => None,
+    }
+}
+
 /// The atom at the front of a text, after another; `outside` says that no bracket is open.
 pub(crate) fn atom_at(
     options: &InlineOptions,
@@ -163,11 +177,11 @@ pub(crate) fn atom_at(
     before: &[u8],
     text: &[u8],
 ) -> Option<Atom>
-    requires { options.now.constructs.gfm_autolink_literal ≡ false }
     ensures { found result ≡ inlines.atom options.now outside before.now text.now }
 {
     let on = options.constructs;
-    let trailing = trailing_at(on.hard_break_trailing, text);
+    let address = when(on.gfm_autolink_literal && outside, address_at(before, text));
+    let trailing = or_else(trailing_at(on.hard_break_trailing, text), address);
     let html = or_else(when(on.html_text, html_at(text)), trailing);
     let autolink = or_else(when(on.autolink, autolink_at(text)), html);
     let math = math_at(options.math_text_single_dollar, text);
@@ -233,6 +247,19 @@ fn reference(reference: Reference) -> [Node; 7]
     ]
 }
 
+/// The name of an address without angle brackets.
+pub(crate) fn literal_name(kind: LiteralKind) -> Name
+    ensures { result ≡ inlines.literal_name kind }
+{
+    match kind {
+        LiteralKind::Www => Name::GfmAutolinkLiteralWww,
+        LiteralKind::Protocol => Name::GfmAutolinkLiteralProtocol,
+        LiteralKind::Email => Name::GfmAutolinkLiteralEmail,
+        LiteralKind::Mailto => Name::GfmAutolinkLiteralMailto,
+        LiteralKind::Xmpp => Name::GfmAutolinkLiteralXmpp,
+    }
+}
+
 /// Adds the nodes of an atom.
 ///
 /// An `Err` says that memory ran out.
@@ -286,6 +313,10 @@ fn push_atom(nodes: &mut Vec<Node>, atom: Atom) -> Result<(), Message>
                 Node::Piece(Name::SpaceOrTab, white),
                 Node::Piece(Name::HardBreakTrailing, spaces),
             ],
+        ),
+        Atom::Literal(found) => push_kept(
+            nodes,
+            &[Node::Piece(literal_name(found.kind), found.len)],
         ),
     }
 }

@@ -1,7 +1,7 @@
 // Brackets (CommonMark 6.3, 6.4), without a stack of calls: a text is read from left to right, and what is open is in a
 // list.
 
-ghost use Rattle.std.specs.Prelude.{◌≡◌, ◌∷◌, false, IfOk, OnOk, map, option_map, drop, string_bytes};
+ghost use Rattle.std.specs.Prelude.{◌≡◌, ◌∷◌, IfOk, OnOk, map, option_map, drop, string_bytes};
 ghost use Rattle.md_inlines.specs.Content as content;
 ghost use Rattle.reference_inlines.specs.Pairs as pairs;
 ghost use Rattle.reference_inlines.specs.Reading as spec;
@@ -99,7 +99,6 @@ fn opening(options: &InlineOptions, text: &[u8]) -> usize
 
 /// What is at the front of a text that begins with this byte, after another; `inside` says that a bracket is open.
 fn front_at(options: &InlineOptions, inside: bool, before: &[u8], byte: u8, text: &[u8]) -> Front
-    requires { options.now.constructs.gfm_autolink_literal ≡ false }
     ensures { spec.front_of result ≡ spec.front_at options.now inside before.now byte text.now }
 {
     if let Some(found) = atom_at(options, !inside, before, text) {
@@ -361,8 +360,7 @@ fn step(
     following: &[u8],
     reading: &mut Reading,
 ) -> Result<(), Message>
-    requires literals { options.now.constructs.gfm_autolink_literal ≡ false }
-    requires is { drop reading.old.at text.now ≡ byte ∷ following.now }
+    requires { drop reading.old.at text.now ≡ byte ∷ following.now }
     ensures { OnOk result (spec.Goes options.now (content.has_form (map string_bytes labels.entry.definitions.now))
         (content.has_form (map string_bytes labels.entry.footnotes.now)) text.now (spec.state_of reading.old)
         (spec.state_of reading.new)) }
@@ -399,7 +397,6 @@ pub(crate) fn read(
     text: &[u8],
     start: usize,
 ) -> Result<Vec<Node>, Message>
-    requires { options.now.constructs.gfm_autolink_literal ≡ false }
     ensures { IfOk result (λ made. made.items ≡ spec.level_nodes options.now
         (content.has_form (map string_bytes labels.entry.definitions.now))
         (content.has_form (map string_bytes labels.entry.footnotes.now)) text.now start) }

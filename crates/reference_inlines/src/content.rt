@@ -1,11 +1,13 @@
 // The inline content of a text (CommonMark 6), by the definition.
 
-ghost use Rattle.std.specs.Prelude.{◌≡◌, false, IfOk, map, drop, string_bytes, take};
+ghost use Rattle.std.specs.Prelude.{◌≡◌, IfOk, map, drop, string_bytes, take};
 ghost use Rattle.md_inlines.specs.Content as inlines;
 ghost use Rattle.reference_inlines.specs.Nodes.{check_nodes, nodes};
 ghost use Rattle.reference_inlines.specs.Given.{labels_of};
+ghost use Rattle.reference_inlines.specs.Searched.{addressed};
 
 use crate::brackets::read;
+use crate::emails::with_emails;
 use crate::emphasis::emphasis;
 use crate::labels::Defined;
 use crate::merged::merged;
@@ -15,6 +17,26 @@ use md_engine::message::Message;
 use md_inline_scan::task::{is_checked, is_task};
 use md_inlines::InlineOptions;
 use std::alloc::Global;
+
+/// Nodes from a place of a text on, with the e-mail addresses in its text, if these are on.
+///
+/// An `Err` says that memory ran out.
+fn with_addresses(
+    alloc: Global,
+    options: &InlineOptions,
+    text: &[u8],
+    start: usize,
+    made: Vec<Node>,
+) -> Result<Vec<Node>, Message>
+    ensures { IfOk result
+        (λ found. found.items ≡ addressed options.now text.now start made.items) }
+{
+    if !options.constructs.gfm_autolink_literal {
+        return Ok(made);
+    }
+    let found = with_emails(alloc, text, start, &made)?;
+    merged(alloc, &found)
+}
 
 /// The content of a text from a place on.
 ///
@@ -26,14 +48,14 @@ fn content_from(
     text: &[u8],
     start: usize,
 ) -> Result<Vec<Node>, Message>
-    requires { options.now.constructs.gfm_autolink_literal ≡ false }
     ensures { IfOk result (λ made. made.items ≡ nodes
         (inlines.forest_after options.now (inlines.has_form (map string_bytes labels.entry.definitions.now))
         (inlines.has_form (map string_bytes labels.entry.footnotes.now)) (take start text.now) (drop start text.now))) }
 {
     let level = read(alloc, options, labels, text, start)?;
     let list = emphasis(alloc, options.gfm_strikethrough_single_tilde, &level)?;
-    merged(alloc, &list)
+    let made = merged(alloc, &list)?;
+    with_addresses(alloc, options, text, start, made)
 }
 
 /// The check of a task item, with this byte between its brackets.
@@ -65,8 +87,6 @@ fn check(alloc: Global, byte: u8) -> Result<Vec<Node>, Message>
 /// pieces of its forest, in the order of the text. `first` says that the text is that of the first paragraph of an
 /// item.
 ///
-/// Addresses without angle brackets are not read yet, so their construct is off.
-///
 /// An `Err` says that memory ran out.
 pub fn content(
     alloc: Global,
@@ -75,7 +95,6 @@ pub fn content(
     first: bool,
     text: &[u8],
 ) -> Result<Vec<Node>, Message>
-    requires { options.now.constructs.gfm_autolink_literal ≡ false }
     ensures { IfOk result (λ made. made.items ≡ nodes
         (inlines.content options.now (labels_of labels.entry) first text.now)) }
 {

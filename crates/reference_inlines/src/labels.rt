@@ -37,7 +37,7 @@ fn split_lines<'a>(alloc: Global, text: &'a [u8]) -> Result<Vec<&'a [u8]>, Alloc
 /// The lines of a text.
 ///
 /// An `Err` says that memory ran out.
-fn lines<'a>(alloc: Global, text: &'a [u8]) -> Result<Vec<&'a [u8]>, Message>
+pub fn lines<'a>(alloc: Global, text: &'a [u8]) -> Result<Vec<&'a [u8]>, Message>
     ensures { IfOk result (λ made. texts made.items ≡ target.lines text.now) }
 {
     match split_lines(alloc, text) {

@@ -7,11 +7,12 @@
 mod atom;
 mod brackets;
 pub mod content;
+mod emails;
 mod emphasis;
 pub mod labels;
 mod merged;
 pub mod node;
-mod slices;
+pub mod slices;
 pub mod target;
 
 ghost use Rattle.std.specs.Prelude.{◌≡◌, ℕ, Bool, List};

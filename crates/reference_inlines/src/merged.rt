@@ -10,7 +10,7 @@ use md_scan::memory::push;
 use std::alloc::Global;
 
 /// How many bytes of text a node is; none of another.
-fn data_len(node: Node) -> Option<usize>
+pub(crate) fn data_len(node: Node) -> Option<usize>
     ensures { result ≡ spec.data_len node }
 {
     match node {

@@ -110,7 +110,7 @@ pub(crate) fn sum(a: usize, b: usize) -> Result<usize, Message>
 }
 
 /// How many bytes a node is over.
-fn len_of(node: Node) -> usize
+pub fn len_of(node: Node) -> usize
     ensures { result ≡ spec.len_of node }
 {
     match node {

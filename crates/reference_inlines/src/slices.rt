@@ -3,7 +3,7 @@
 ghost use Rattle.std.specs.Prelude.{◌≡◌, take, drop};
 
 /// So many items at the front of a list, or all of it.
-pub(crate) fn front<T>(items: &[T], len: usize) -> &[T]
+pub fn front<T>(items: &[T], len: usize) -> &[T]
     ensures { result.now ≡ take len items.now }
 {
     if len < items.len() {
@@ -14,7 +14,7 @@ pub(crate) fn front<T>(items: &[T], len: usize) -> &[T]
 }
 
 /// What is after so many items of a list.
-pub(crate) fn after<T>(items: &[T], len: usize) -> &[T]
+pub fn after<T>(items: &[T], len: usize) -> &[T]
     ensures { result.now ≡ drop len items.now }
 {
     if len < items.len() {

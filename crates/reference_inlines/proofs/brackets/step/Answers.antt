@@ -20,7 +20,7 @@ returns-in_ok-len-in-Atom c =
     c.args.byte c.args.following.now
     (open_is c.args.reading.now.stack.items c.args.reading.now.stack.len c.is_empty-inside.result
     c.is_empty-inside.ensures c.args.reading.now.stack.ok.0)
-    c.front-before.ensures c.after-rest.ensures c.requires.is
+    c.front-before.ensures c.after-rest.ensures c.requires
     (atom_forest c.in-Atom.found) c.in_ok-nodes-in-Atom.nodes.items c.in_ok-len-in-Atom.len c.in-Atom.ensures
     c.in_ok-nodes-in-Atom.ensures (c.in_ok-len-in-Atom.ensures ∙ ap len_of_all c.deref.ensures.value)
     (read ∙ ap (λ l. added (state_of c.args.reading.now) l c.in_ok-len-in-Atom.len) c.deref-in-Atom.ensures.value))
@@ -37,7 +37,7 @@ returns-in-Run c =
     (open_is c.args.reading.now.stack.items c.args.reading.now.stack.len c.is_empty-inside.result
     c.is_empty-inside.ensures c.args.reading.now.stack.ok.0)
     c.front-before.ensures c.after-rest.ensures
-    c.requires.is c.in-Run.run' c.in-Run.ensures read)
+    c.requires c.in-Run.run' c.in-Run.ensures read)
     c.add-in-Run.ensures
 
 pub returns-in-Text : goal.returns-in-Text
@@ -51,7 +51,7 @@ returns-in-Text c =
     (open_is c.args.reading.now.stack.items c.args.reading.now.stack.len c.is_empty-inside.result
     c.is_empty-inside.ensures c.args.reading.now.stack.ok.0)
     c.front-before.ensures c.after-rest.ensures
-    c.requires.is c.in-Text.ensures read)
+    c.requires c.in-Text.ensures read)
     c.add-in-Text.ensures
 
 pub returns-in-Opens : goal.returns-in-Opens
@@ -65,7 +65,7 @@ returns-in-Opens c =
     (open_is c.args.reading.now.stack.items c.args.reading.now.stack.len c.is_empty-inside.result
     c.is_empty-inside.ensures c.args.reading.now.stack.ok.0)
     c.front-before.ensures c.after-rest.ensures
-    c.requires.is c.in-Opens.len c.in-Opens.ensures read)
+    c.requires c.in-Opens.len c.in-Opens.ensures read)
     c.open_by.ensures
 
 pub returns-in_ok-made-in-Closes : goal.returns-in_ok-made-in-Closes
@@ -79,7 +79,7 @@ returns-in_ok-made-in-Closes c =
     (open_is c.args.reading.now.stack.items c.args.reading.now.stack.len c.is_empty-inside.result
     c.is_empty-inside.ensures c.args.reading.now.stack.ok.0)
     c.front-before.ensures c.after-rest.ensures
-    c.requires.is c.in-Some.opened (reverse c.pop.new.self.items) (option_map made_of c.in_ok-made-in-Closes.made)
+    c.requires c.in-Some.opened (reverse c.pop.new.self.items) (option_map made_of c.in_ok-made-in-Closes.made)
     c.in-Closes.ensures
     (ap reverse c.in-Some.ensures.items ∙ reverse_push c.pop.new.self.items c.in-Some.opened)
     c.in_ok-made-in-Closes.ensures read)
