@@ -5,3 +5,12 @@ pub mod ResumedLemmas
 pub mod MatchLemmas
 pub mod BoundedLemmas
 pub mod LoopLemmas
+pub mod ShapeLemmas
+pub mod MachineLemmas
+pub mod OpenedLemmas
+pub mod EmphasisSize
+pub mod LeadingLemmas
+pub mod ClosedLemmas
+pub mod StepLemmas
+pub mod ContentLemmas
+pub mod ReadLemmas

@@ -1,5 +1,5 @@
 -- Lists of spans side by side, and what is written into them.
-use Rattle.std.proofs.Common.{◌≡◌, ℕ, zero, suc, ◌+◌, ◌<◌, ◌≤◌, Bool, true, false, cond, List, [], ◌∷◌, ◌++◌}
+use Rattle.std.proofs.Common.{◌≡◌, ℕ, zero, suc, ◌+◌, ◌-◌, ◌*◌, ◌<◌, ◌≤◌, Bool, true, false, cond, List, [], ◌∷◌, ◌++◌}
 use Rattle.std.proofs.Common.{length, refl, ap, sym, ◌∙◌, subst, append_assoc, arith}
 use Rattle.std.specs.Prelude.{nat_lt, set}
 use Rattle.std.proofs.lemmas.Bool.Decides.{nat_tests}
@@ -15,12 +15,12 @@ use Rattle.proof_inlines.proofs.SizeLemmas.{over-size, part-size, piece-size}
 use Rattle.markdown_inlines.specs.declared.attention.Names.{Names}
 use Rattle.markdown_inlines.specs.declared.attention.PlacedRun.{PlacedRun}
 use Rattle.markdown_inlines.specs.declared.span.Span.{Span}
-use Rattle.markdown_inlines.specs.Filled.{Filled, end_spans, pair_spans, room}
+use Rattle.markdown_inlines.specs.Filled.{Filled, end_spans, pair_spans, room, width}
 use Rattle.markdown_inlines.specs.Spans.{hole, holes, live, shown, span_of, spans_forest, unless_data, write}
 
 -- Over how many bytes forests are.
 
-beside-size : (a b : Forest) → size (beside a b) ≡ size a + size b
+pub beside-size : (a b : Forest) → size (beside a b) ≡ size a + size b
 beside-size nothing b = omega arith
 beside-size (piece name more following) b =
     omega (
@@ -60,7 +60,7 @@ live-append [] ys = refl
 live-append (span ∷ xs) ys =
     ap (λ (l : List Span). shown span ++ l) (live-append xs ys) ∙ sym (append_assoc (shown span) (live xs) (live ys))
 
-live-holes : (count : ℕ) → live (holes count) ≡ []
+pub live-holes : (count : ℕ) → live (holes count) ≡ []
 live-holes zero = refl
 live-holes (suc count) = live-holes count
 
@@ -73,15 +73,43 @@ holes-append zero b c h = ap holes (omega (arith, h))
 holes-append (suc a) b zero h = absurd (omega (arith, h))
 holes-append (suc a) b (suc c) h = ap (λ (l : List Span). hole ∷ l) (holes-append a b c (omega (arith, h)))
 
+-- as places are kept one after the other
+pub holes-more : (left : ℕ) (spans : List Span) → 0 < left →
+    (spans ++ hole ∷ []) ++ holes (left - 1) ≡ spans ++ holes left
+holes-more zero spans h = absurd (omega (arith, h))
+holes-more (suc left) spans h =
+    let less : suc left - 1 ≡ left = omega arith in
+    append_assoc spans (hole ∷ []) (holes (suc left - 1))
+    ∙ ap (λ (k : ℕ). spans ++ hole ∷ holes k) less
+
+-- those of a run, three for each byte if it may open
+pub run-places : (left : ℕ) (spans : List Span) (x : Bool) → x ≡ true →
+    ((spans ++ holes left) ++ holes left) ++ holes left ≡ spans ++ holes (left * width x)
+run-places left spans true h =
+    three spans (holes left)
+    ∙ ap (λ (l : List Span). spans ++ l)
+    (ap (λ (l : List Span). holes left ++ l) (sym (holes-append left left (left + left) refl))
+    ∙ sym (holes-append left (left + left) (left * 3) (omega arith)))
+  where
+    three : (a b : List Span) → ((a ++ b) ++ b) ++ b ≡ a ++ (b ++ (b ++ b))
+    three a b = grind (arith, append_assoc)
+run-places left spans false h = cc
+
+pub run-place : (left : ℕ) (spans : List Span) (x : Bool) → x ≡ false →
+    spans ++ holes left ≡ spans ++ holes (left * width x)
+run-place left spans true h = cc
+run-place left spans false h =
+    let one : left ≡ left * 1 = omega arith in ap (λ (k : ℕ). spans ++ holes k) one
+
 -- The spans of a forest.
 
-both : (xs ys s t : List Span) → xs ≡ s → ys ≡ t → xs ++ ys ≡ s ++ t
+pub both : (xs ys s t : List Span) → xs ≡ s → ys ≡ t → xs ++ ys ≡ s ++ t
 both xs ys s t h k = ap (λ (l : List Span). l ++ ys) h ∙ ap (λ (l : List Span). s ++ l) k
 
 pub spans-at : (forest : Forest) (a b : ℕ) → a ≡ b → spans_forest a forest ≡ spans_forest b forest
 spans-at forest a b h = ap (λ (at : ℕ). spans_forest at forest) h
 
-shown-at : (name : Name) (a b c d : ℕ) → a ≡ c → b ≡ d → shown (span_of name a b) ≡ shown (span_of name c d)
+pub shown-at : (name : Name) (a b c d : ℕ) → a ≡ c → b ≡ d → shown (span_of name a b) ≡ shown (span_of name c d)
 shown-at name a b c d h k =
     ap (λ (at : ℕ). shown (span_of name at b)) h ∙ ap (λ (at : ℕ). shown (span_of name c at)) k
 
@@ -92,7 +120,7 @@ shown-none name a b h = go (nat_lt a b) refl
     go true is = let less : a < b = grind (arith, nat_tests) in absurd (omega (arith, h, less))
     go false is = refl
 
-spans-beside : (at : ℕ) (a b : Forest) →
+pub spans-beside : (at : ℕ) (a b : Forest) →
     spans_forest at (beside a b) ≡ spans_forest at a ++ spans_forest (at + size a) b
 spans-beside at nothing b = spans-at b at (at + 0) (omega arith)
 spans-beside at (piece name more following) b =
@@ -279,3 +307,17 @@ write-over xs (old ∷ olds) (new ∷ news) ys place h k =
     ∙ write-over (xs ++ new ∷ []) olds news ys (suc place) (omega (arith, h))
     (omega (arith, k, length-append xs (new ∷ [])))
     ∙ append_assoc xs (new ∷ []) (news ++ ys)
+
+-- Equal lists of spans.
+
+pub two-spans : (a b c d : Span) → a ≡ c → b ≡ d → a ∷ b ∷ [] ≡ c ∷ d ∷ []
+two-spans a b c d h k = ap (λ (x : Span). x ∷ b ∷ []) h ∙ ap (λ (x : Span). c ∷ x ∷ []) k
+
+pub three-spans : (a b c d e f : Span) → a ≡ d → b ≡ e → c ≡ f → a ∷ b ∷ c ∷ [] ≡ d ∷ e ∷ f ∷ []
+three-spans a b c d e f h k l =
+    ap (λ (x : Span). x ∷ b ∷ c ∷ []) h ∙ ap (λ (x : List Span). d ∷ x) (two-spans b c e f k l)
+
+pub four-spans : (a b c d e f g h : Span) → a ≡ e → b ≡ f → c ≡ g → d ≡ h →
+    a ∷ b ∷ c ∷ d ∷ [] ≡ e ∷ f ∷ g ∷ h ∷ []
+four-spans a b c d e f g h k l m o =
+    ap (λ (x : Span). x ∷ b ∷ c ∷ d ∷ []) k ∙ ap (λ (x : List Span). e ∷ x) (three-spans b c d f g h l m o)

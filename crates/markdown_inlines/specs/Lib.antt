@@ -1,3 +1,10 @@
 pub mod Spans
 pub mod Filled
 pub mod Matching
+pub mod Found
+pub mod Reading
+pub mod Opened
+pub mod Given
+pub mod Leading
+pub mod Closed
+pub mod Reads

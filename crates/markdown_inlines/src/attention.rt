@@ -7,16 +7,19 @@
 // is to keep the work linear, of which no clause speaks.
 
 ghost use Rattle.std.specs.Prelude.{◌≡◌, ℕ, ◌+◌, ◌-◌, ◌*◌, ◌^◌, ◌<◌, ◌≤◌, true, List, [], ◌∷◌, ◌++◌};
-ghost use Rattle.std.specs.Prelude.{length, take, drop};
+ghost use Rattle.std.specs.Prelude.{length, take, drop, OnOk};
 ghost use Rattle.md_inlines.specs.Emphasis as emphasis;
 ghost use Rattle.md_inlines.specs.Emphasis.{Item};
-ghost use Rattle.markdown_inlines.specs.Filled.{Filled, Placed, Shows, shorter_run, width};
+ghost use Rattle.markdown_inlines.specs.Filled.{Filled, Placed, Shows, placed, room, shorter_run, width};
 ghost use Rattle.markdown_inlines.specs.Matching as matching;
 ghost use Rattle.markdown_inlines.specs.Matching.{IsOpener, kept, raised, stack};
+ghost use Rattle.markdown_inlines.specs.Spans.{holes};
 
-use crate::span::Span;
+use crate::span::{Span, push_places};
 use md_engine::event::Name;
+use md_engine::message::Message;
 use md_inlines::Run;
+use md_scan::memory::push;
 
 /// A run as a reader lists it: what is left of it, where its first byte is, and the first of its places.
 #[derive(Clone, Copy, Debug, PartialEq, Eq)]
@@ -314,4 +317,36 @@ pub fn match_runs(single: bool, runs: &mut [PlacedRun], spans: &mut [Span])
             }
         }
     }
+}
+
+/// Keeps the places of a run's bytes.
+///
+/// An `Err` says that memory ran out.
+fn push_room(spans: &mut Vec<Span>, run: Run) -> Result<(), Message>
+    ensures { OnOk result (spans.new.items ≡ spans.old.items ++ holes (room run)) }
+{
+    push_places(spans, run.left)?;
+    if !run.opens {
+        return Ok(());
+    }
+    push_places(spans, run.left)?;
+    push_places(spans, run.left)
+}
+
+/// Lists a run that begins at a byte, and keeps the places of its bytes.
+///
+/// An `Err` says that memory ran out.
+pub fn push_run(
+    spans: &mut Vec<Span>,
+    runs: &mut Vec<PlacedRun>,
+    run: Run,
+    first: usize,
+) -> Result<(), Message>
+    ensures places { OnOk result (spans.new.items ≡ spans.old.items ++ holes (room run)) }
+    ensures listed { OnOk result
+        (runs.new.items ≡ runs.old.items ++ placed run first (length spans.old.items) ∷ []) }
+{
+    let place = spans.len();
+    push_room(spans, run)?;
+    push(runs, PlacedRun { run, first, place })
 }

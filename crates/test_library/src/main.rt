@@ -12,8 +12,8 @@
 //
 // Tests of the library and of the programs that no row can have: runs over inputs and outputs that fail or that signals
 // interrupt, arguments of a system, texts and outlines by parts, the plain program on many containers, what the layer of
-// references marks, what a layer learns of a text part, and which delimiter runs are matched. A crate with tests is
-// proved twice, so they are here and not beside what they test.
+// references marks, what a layer learns of a text part, which delimiter runs are matched, and the spans of inline
+// content. A crate with tests is proved twice, so they are here and not beside what they test.
 #![tactic(auto)]
 
 ghost use Rattle.markdown_blocks.specs.Parsed.{IsSmall, IsWithoutMdx};
@@ -34,6 +34,8 @@ mod places;
 mod runs;
 #[cfg(test)]
 mod signals;
+#[cfg(test)]
+mod spans;
 mod states;
 #[cfg(test)]
 mod streams;

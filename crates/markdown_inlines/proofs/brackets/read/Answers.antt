@@ -1,0 +1,18 @@
+use Rattle.std.proofs.Common.{length, refl, ap, sym, ◌∙◌, rules}
+use Rattle.markdown_inlines.proofs.ReadLemmas.{begins, read-smaller}
+use Rattle.markdown_inlines.proofs.brackets.read.Goals as goal
+
+pub loop-byte-init : goal.loop-byte-init
+loop-byte-init c =
+    begins c.args.source _ c.new.ensures.items c.new-2.ensures.items c.new-3.ensures.items refl refl
+
+pub loop-byte-preserved : goal.loop-byte-preserved
+loop-byte-preserved c = c.in_ok-step.ensures.reads
+
+pub loop-byte-smaller : goal.loop-byte-smaller
+loop-byte-smaller c =
+    read-smaller c.args.source c.loop-byte.reading c.step.new.reading c.in-Some.byte.now c.in-Some.following.now
+    c.in_ok-step.ensures (search rules)
+
+pub match_last-requires-clause-end : goal.match_last-requires-clause-end
+match_last-requires-clause-end c = ap length (sym c.after.ensures) ∙ c.in_default.ensures.cases

@@ -1,0 +1,105 @@
+// Labels: which the document defines.
+
+ghost use Rattle.std.specs.Prelude.{◌≡◌, ◌<◌, true, IfOk, length, map, string_bytes};
+ghost use Rattle.std.specs.List.{list_any};
+ghost use Rattle.md_inlines.specs.Target as target;
+ghost use Rattle.md_inlines.specs.Characters as characters;
+ghost use Rattle.md_inlines.specs.Content as content;
+ghost use Rattle.md_inlines.specs.Targets as targets;
+ghost use Rattle.md_scan.specs.Definitions.{texts};
+ghost use Rattle.markdown_inlines.specs.Given.{is_listed};
+
+use md_engine::message::Message;
+use md_inline_scan::target::label_len;
+use md_scan::bytes::is_white;
+use md_scan::label::form_of_bytes;
+use md_scan::memory::push;
+use std::alloc::{AllocError, Global};
+
+/// The labels that a document defines, in their normal forms.
+#[derive(Clone, Copy)]
+pub struct Defined<'a> {
+    /// Those of its definitions (CommonMark 4.7).
+    pub definitions: &'a [String],
+    /// Those of its footnotes.
+    pub footnotes: &'a [String],
+}
+
+/// The lines of a text.
+///
+/// An `Err` says that memory ran out.
+fn split_lines<'a>(alloc: Global, text: &'a [u8]) -> Result<Vec<&'a [u8]>, AllocError>
+    ensures { IfOk result (λ made. texts made.items ≡ target.lines text.now) }
+{
+    text.split(|byte| *byte == b'\n').collect(alloc)
+}
+
+/// Whether a normal form is listed.
+fn is_listed(forms: &[String], form: &str) -> bool
+    ensures { result ≡ is_listed (map string_bytes forms.now) form.now }
+{
+    for known in forms {
+        if known.as_str() == form {
+            return true;
+        }
+    }
+    false
+}
+
+/// Whether a label has one of these normal forms.
+///
+/// An `Err` says that memory ran out.
+pub(crate) fn has_form(alloc: Global, forms: &[String], label: &[u8]) -> Result<bool, Message>
+    ensures { IfOk result (λ has. has ≡ content.has_form (map string_bytes forms.now) label.now) }
+{
+    match split_lines(alloc, label) {
+        Ok(lines) => {
+            let form = form_of_bytes(alloc, &lines)?;
+            Ok(is_listed(forms, form.as_str()))
+        }
+        Err(_) => Err(Message),
+    }
+}
+
+/// Whether the text between two brackets is a label.
+///
+/// An `Err` says that memory ran out.
+pub(crate) fn is_own_label(alloc: Global, text: &[u8]) -> Result<bool, Message>
+    ensures { IfOk result (λ is. is ≡ target.is_own_label text.now) }
+{
+    let mut own = Vec::new(alloc);
+    if own.extend_from_slice(text).is_err() {
+        return Err(Message);
+    }
+    push(&mut own, b']')?;
+    match label_len(&own) {
+        Some(len) => Ok(len == text.len()),
+        None => Ok(false),
+    }
+}
+
+/// Whether whitespace is among these bytes.
+fn has_gap(text: &[u8]) -> bool
+    ensures { result ≡ list_any characters.is_gap text.now }
+{
+    text.iter().any(|byte| is_white(*byte) || *byte == b'\n')
+}
+
+/// Whether the text between two brackets calls one of these footnotes.
+///
+/// An `Err` says that memory ran out.
+pub(crate) fn is_call(alloc: Global, footnotes: &[String], text: &[u8]) -> Result<bool, Message>
+    ensures value { IfOk result
+        (λ is. is ≡ targets.is_call (content.has_form (map string_bytes footnotes.now)) text.now) }
+    ensures some { IfOk result (λ is. is ≡ true → 0 < length text.now) }
+{
+    match text {
+        [b'^', label @ ..] => {
+            if has_gap(label) || !is_own_label(alloc, label)? {
+                return Ok(false);
+            }
+            has_form(alloc, footnotes, label)
+        }
+        _ => Ok(false),
+    }
+}
