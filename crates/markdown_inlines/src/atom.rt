@@ -9,12 +9,12 @@ ghost use Rattle.markdown_inlines.specs.Found.{found};
 use crate::span::{Span, past, push_spans};
 use md_engine::event::Name;
 use md_engine::message::Message;
-use md_inline_scan::autolink::{email_len, uri_len};
-use md_inline_scan::breaks::{break_len, is_break_escape, trailing_len};
-use md_inline_scan::code::raw_at;
-use md_inline_scan::escape::{is_escape, reference_at};
-use md_inline_scan::html::after_html;
-use md_inline_scan::literal::literal_at;
+use md_inlines::address::literal_at;
+use md_inlines::autolink::{email_len, uri_len};
+use md_inlines::breaks::{break_len, is_break_escape, trailing_len};
+use md_inlines::code::raw_at;
+use md_inlines::escape::{is_escape, reference_at};
+use md_inlines::html::after_html;
 use md_inlines::{InlineOptions, Literal, LiteralKind, Raw, Reference};
 use md_scan::bytes::run_len;
 

@@ -24,7 +24,7 @@ use crate::span::{Span, past, push_places, push_spans};
 use crate::target::{Target, push_target, target_of};
 use md_engine::event::Name;
 use md_engine::message::Message;
-use md_inline_scan::flanking::run_at;
+use md_inlines::flanking::run_at;
 use md_inlines::{InlineOptions, Run};
 use md_scan::ahead::begins_with;
 use md_scan::memory::push;

@@ -11,8 +11,8 @@ use crate::labels::Defined;
 use crate::span::{Span, push_spans};
 use md_engine::event::Name;
 use md_engine::message::Message;
-use md_inline_scan::task::{is_checked, is_task};
 use md_inlines::InlineOptions;
+use md_inlines::task::{is_checked, is_task};
 use std::alloc::Global;
 
 /// The spans of a text from a place on.

@@ -14,7 +14,7 @@ use crate::slices::{after, front};
 use crate::span::{Span, past, push_spans};
 use md_engine::event::Name;
 use md_engine::message::Message;
-use md_inline_scan::target::{label_len, resource_at};
+use md_inlines::target::{label_len, resource_at};
 use md_inlines::{InlineOptions, Resource};
 use md_scan::ahead::begins_with;
 use std::alloc::Global;

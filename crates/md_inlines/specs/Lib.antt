@@ -21,3 +21,6 @@ pub mod Targets
 pub mod Brackets
 pub mod Emails
 pub mod Content
+-- What contracts of the functions over bytes cite besides.
+pub mod Addresses
+pub mod Classes

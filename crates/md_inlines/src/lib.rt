@@ -1,6 +1,19 @@
 // What the text of a part means (CommonMark 6, GFM 5.3, 6.5 and 6.9): inline constructs by their bytes, and the forest of
-// a text. The definitions are in `specs`, and here are the options and the values that they give.
+// a text. The definitions are in `specs`. Here are the options, the values that definitions give, and each construct as
+// a plain function over bytes, which returns what its definition gives.
 #![tactic(auto)]
+
+pub mod address;
+pub mod autolink;
+pub mod breaks;
+pub mod class;
+pub mod code;
+pub mod email;
+pub mod escape;
+pub mod flanking;
+pub mod html;
+pub mod target;
+pub mod task;
 
 /// Which inline constructs are on.
 ///

@@ -25,7 +25,7 @@ use Rattle.md_inlines.specs.RawHtml.{after_attribute, after_attributes, after_by
 use Rattle.md_inlines.specs.RawHtml.{after_comment}
 use Rattle.md_inlines.specs.RawHtml.{after_html, after_marked, after_opening, after_word, repeated}
 use Rattle.md_inlines.specs.Target.{after_gap}
-use Rattle.md_inline_scan.proofs.HtmlLemmas.{length-after_attribute, length-after_gap}
+use Rattle.md_inlines.proofs.HtmlLemmas.{length-after_attribute, length-after_gap}
 use Rattle.md_inlines.specs.Atoms.{angled, autolink_at, break_escape_at, byte, html, html_at, or_else, trailing_at}
 use Rattle.proof_inlines.specs.Sized.{IsFront, Over}
 use Rattle.proof_inlines.proofs.AtomLemmas.{Fronts, begins-after, begins-some, either-front, front, same-front}

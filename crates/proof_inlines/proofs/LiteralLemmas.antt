@@ -22,7 +22,7 @@ use Rattle.md_inlines.specs.RawHtml.{repeated}
 use Rattle.md_inlines.specs.declared.Literal.{Literal}
 use Rattle.md_inlines.specs.declared.LiteralKind.{LiteralKind}
 use Rattle.md_inlines.specs.declared.LiteralKind.TheVariants as literal
-use Rattle.md_inline_scan.proofs.LiteralLemmas.{length-without_extra}
+use Rattle.md_inlines.proofs.LiteralLemmas.{length-without_extra}
 use Rattle.md_inlines.specs.Atoms.{address, byte, is_data, literal_name}
 use Rattle.md_inlines.specs.Emails.{emails_at_most, emails_in, holds_text, with_emails}
 use Rattle.proof_inlines.specs.Sized.{IsFront, Over}

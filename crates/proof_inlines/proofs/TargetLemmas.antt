@@ -19,8 +19,8 @@ use Rattle.md_inlines.specs.Target.{length_in, literal_len, raw_len, resource_at
 use Rattle.md_inlines.specs.Target.{with_destination}
 use Rattle.md_inlines.specs.declared.InlineOptions.{InlineOptions}
 use Rattle.md_inlines.specs.declared.Resource.{Resource}
-use Rattle.md_inline_scan.proofs.HtmlLemmas.{length-after_gap}
-use Rattle.md_inline_scan.proofs.TargetLemmas.{closed-length}
+use Rattle.md_inlines.proofs.HtmlLemmas.{length-after_gap}
+use Rattle.md_inlines.proofs.TargetLemmas.{closed-length}
 use Rattle.md_inlines.specs.Atoms.{beside, byte, escape_at, or_else, reference_forest, when}
 use Rattle.md_inlines.specs.Targets.{destination, reference, reference_after, resource, resource_forest, short, string}
 use Rattle.md_inlines.specs.Targets.{string_at_most, string_atom, target, title, title_part}

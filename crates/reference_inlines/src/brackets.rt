@@ -14,7 +14,7 @@ use crate::slices::{after, front};
 use crate::target::target;
 use md_engine::event::Name;
 use md_engine::message::Message;
-use md_inline_scan::flanking::run_at;
+use md_inlines::flanking::run_at;
 use md_inlines::{InlineOptions, Run};
 use md_scan::ahead::begins_with;
 use md_scan::memory::push;

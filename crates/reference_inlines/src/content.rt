@@ -14,8 +14,8 @@ use crate::merged::merged;
 use crate::node::{Node, push_nodes};
 use md_engine::event::Name;
 use md_engine::message::Message;
-use md_inline_scan::task::{is_checked, is_task};
 use md_inlines::InlineOptions;
+use md_inlines::task::{is_checked, is_task};
 use std::alloc::Global;
 
 /// Nodes from a place of a text on, with the e-mail addresses in its text, if these are on.

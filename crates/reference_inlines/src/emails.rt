@@ -11,7 +11,7 @@ use crate::node::{Node, push_piece, sum};
 use crate::slices::{after, front};
 use md_engine::event::Name;
 use md_engine::message::Message;
-use md_inline_scan::email::email_at;
+use md_inlines::email::email_at;
 use md_scan::memory::push;
 use std::alloc::Global;
 

@@ -10,7 +10,7 @@ ghost use Rattle.md_scan.specs.Definitions.{texts};
 ghost use Rattle.reference_inlines.specs.Given.{is_listed};
 
 use md_engine::message::Message;
-use md_inline_scan::target::label_len;
+use md_inlines::target::label_len;
 use md_scan::bytes::is_white;
 use md_scan::label::form_of_bytes;
 use md_scan::memory::push;

@@ -12,7 +12,7 @@ use crate::node::{Node, len_of_all, push_kept, push_nodes};
 use crate::slices::{after, front};
 use md_engine::event::Name;
 use md_engine::message::Message;
-use md_inline_scan::target::{label_len, resource_at};
+use md_inlines::target::{label_len, resource_at};
 use md_inlines::{InlineOptions, Resource};
 use md_scan::ahead::begins_with;
 use md_scan::memory::push;

@@ -27,9 +27,9 @@ mod marks;
 #[cfg(test)]
 mod parts;
 #[cfg(test)]
-mod read_parts;
-#[cfg(test)]
 mod places;
+#[cfg(test)]
+mod read_parts;
 #[cfg(test)]
 mod runs;
 #[cfg(test)]

@@ -1,9 +1,0 @@
-use Rattle.std.proofs.Common.{◌≡◌, false, length}
-use Rattle.md_inline_scan.proofs.LiteralLemmas.{late_in}
-use Rattle.md_inline_scan.proofs.literal.has_last_underscore.Given as goal
-
-abbrev pub invariant-loop-first : goal.invariant-loop-first
-invariant-loop-first l = late_in l.earlier l.now l.rest ≡ late_in false false l.fn.text
-
-abbrev pub decreases-loop-first : goal.decreases-loop-first
-decreases-loop-first l = length l.rest

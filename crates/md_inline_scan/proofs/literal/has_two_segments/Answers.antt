@@ -1,6 +1,0 @@
-use Rattle.std.proofs.Common.{◌∙◌}
-use Rattle.md_inline_scan.proofs.LiteralLemmas.{two-segments}
-use Rattle.md_inline_scan.proofs.literal.has_two_segments.Goals as goal
-
-pub returns : goal.returns
-returns c = c.contains.ensures.value ∙ two-segments c.args.text.now

@@ -1,0 +1,15 @@
+use Rattle.std.proofs.Common.{◌∙◌, rules, tests, reverse}
+use Rattle.std.proofs.lemmas.Iterator.Adapters.{YieldsList-from_rev_slice}
+use Rattle.std.proofs.lemmas.Iterator.Consumers.{count_from_yields_List}
+use Rattle.std.proofs.lemmas.Iterator.Search.{YieldsList-from_take_while}
+use Rattle.std.proofs.lemmas.List.Folds.{length-prefix_len}
+use Rattle.md_inlines.specs.Classes.{is_in}
+use Rattle.md_inlines.proofs.class.class_end_len.Goals as goal
+
+pub returns-clause-value : goal.returns-clause-value
+returns-clause-value c =
+    count_from_yields_List c.take_while.result _ c.count.ensures.ran
+    (YieldsList-from_take_while _ (is_in c.args.class)
+    (YieldsList-from_rev_slice c.args.text.now (cc)) c.take_while.ensures.closure c.take_while.ensures.done
+    (λ x b q k. search (rules, tests)))
+    ∙ length-prefix_len (is_in c.args.class) (reverse c.args.text.now)
