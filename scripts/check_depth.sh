@@ -7,7 +7,7 @@
 # - `blocks` prints the outline of a line of 1,000,000 `*`, of one of as many spaces, and of 100,000 empty lines.
 # - `plain_blocks` prints the outline of 2,000 containers in one another, on one line and on two, the second of which closes them. The
 #   outlines are written here.
-# - `plain_inlines` prints the inline content of 400 images in one another, and of emphasis 400 deep. The printed forms are written here.
+# - `plain_inlines` prints the inline content of 300 images in one another, and of emphasis 300 deep. The printed forms are written here.
 # - The same with requests for memory refused, every 61st in turn, alone and with all that follow (`scripts/refuse.c`): the program then
 #   ends with status 3, says so and prints nothing, so that what it holds by then is let go without stack too.
 set -euo pipefail
@@ -24,7 +24,7 @@ LIBRARY = sys.argv[1]
 FOLDER = os.environ.get("PROGRAMS")
 STACK = 256 * 1024
 LEVELS = 2000
-DEEP = 400
+DEEP = 300
 
 # A marker, and the words of the outline that it opens.
 MARKERS = {"> ": ["quote"], "- ": ["list -", "item"], "> 1. ": ["quote", "list .", "item"]}

@@ -54,7 +54,7 @@ use Rattle.markdown_blocks.specs.Parsed.{IsParsed, IsSmall}
 use Rattle.markdown_blocks.specs.PartRead.{AreAhead, AreLaid, HasPart, MayRead, events_after, events_at, events_left}
 use Rattle.markdown_blocks.specs.PartRead.{labels_after, labels_at, labels_left, labels_of, place_left, point_after}
 use Rattle.markdown_blocks.specs.PartRead.{point_in}
-use Rattle.markdown_blocks.proofs.ContentAre.{part-of}
+use Rattle.markdown_blocks.proofs.ContentGroups.{part-of}
 use Rattle.markdown_blocks.proofs.PartLaid.{covers-from, covers-to}
 use Rattle.markdown_blocks.proofs.PartLined.{lined-one}
 use Rattle.markdown_blocks.proofs.PartWhole.{lined-plain}

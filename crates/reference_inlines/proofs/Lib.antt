@@ -1,3 +1,4 @@
+pub mod LineLemmas
 pub mod LayerLemmas
 pub mod NodeLemmas
 pub mod FoundLemmas

@@ -83,19 +83,25 @@ fn at_after(at: usize, node: Node) -> Result<usize, Message>
     }
 }
 
-/// How many parts are open after a node of which the text is not searched, or that are in one.
-#[tactic(auto, using(crate::proofs::SearchedLemmas::begin_open, crate::proofs::SearchedLemmas::begin_hidden, crate::proofs::SearchedLemmas::end_any))]
+/// How many parts are open of which the text is not searched, or that are in one, after one more begins.
+#[tactic(auto, using(crate::proofs::SearchedLemmas::begin_open, crate::proofs::SearchedLemmas::begin_hidden))]
+fn begun(hidden: usize, name: Name) -> Result<usize, Message>
+    ensures { IfOk result (λ count. count ≡ searched.begun hidden name) }
+{
+    if hidden == 0 && holds_text(name) {
+        Ok(0)
+    } else {
+        sum(hidden, 1)
+    }
+}
+
+/// How many such parts are open after a node.
+#[tactic(auto, using(crate::proofs::SearchedLemmas::end_any))]
 fn hidden_after(hidden: usize, node: Node) -> Result<usize, Message>
     ensures { IfOk result (λ count. count ≡ searched.hidden_after hidden node) }
 {
     match node {
-        Node::Begin(name) => {
-            if hidden == 0 && holds_text(name) {
-                Ok(0)
-            } else {
-                sum(hidden, 1)
-            }
-        }
+        Node::Begin(name) => begun(hidden, name),
         Node::End => Ok(hidden.saturating_sub(1)),
         Node::Piece(_, _) | Node::Run(_) => Ok(hidden),
     }

@@ -1,7 +1,8 @@
 // Labels: which the document defines.
 
-ghost use Rattle.std.specs.Prelude.{◌≡◌, IfOk, map, string_bytes};
-ghost use Rattle.std.specs.List.{list_any};
+ghost use Rattle.std.specs.Prelude.{◌≡◌, ◌≤◌, ◌==◌, IfOk, length, map, not, string_bytes};
+ghost use Rattle.std.specs.List.{list_any, prefix_len};
+ghost use Rattle.md_meaning.specs.Ascii.{line_feed};
 ghost use Rattle.md_inlines.specs.Target as target;
 ghost use Rattle.md_inlines.specs.Characters as characters;
 ghost use Rattle.md_inlines.specs.Content as content;
@@ -14,7 +15,7 @@ use md_inlines::target::label_len;
 use md_scan::bytes::is_white;
 use md_scan::label::form_of_bytes;
 use md_scan::memory::push;
-use std::alloc::{AllocError, Global};
+use std::alloc::Global;
 
 /// The labels that a document defines, in their normal forms.
 #[derive(Clone, Copy)]
@@ -25,25 +26,30 @@ pub struct Defined<'a> {
     pub footnotes: &'a [String],
 }
 
-/// The lines of a text.
-///
-/// An `Err` says that memory ran out.
-fn split_lines<'a>(alloc: Global, text: &'a [u8]) -> Result<Vec<&'a [u8]>, AllocError>
-    ensures { IfOk result (λ made. texts made.items ≡ target.lines text.now) }
+/// How many bytes are before the first line feed.
+fn line_len(text: &[u8]) -> usize
+    ensures value { result ≡ prefix_len (λ b. not (b == line_feed)) text.now }
+    ensures bound { result ≤ length text.now }
 {
-    text.split(|byte| *byte == b'\n').collect(alloc)
+    text.iter().take_while(|byte| **byte != b'\n').count()
 }
 
 /// The lines of a text.
 ///
-/// An `Err` says that memory ran out.
+/// An `Err` says that memory ran out. Each line is pushed, since `collect` would ask for less where a request is refused.
 pub fn lines<'a>(alloc: Global, text: &'a [u8]) -> Result<Vec<&'a [u8]>, Message>
     ensures { IfOk result (λ made. texts made.items ≡ target.lines text.now) }
 {
-    match split_lines(alloc, text) {
-        Ok(made) => Ok(made),
-        Err(_) => Err(Message),
+    let mut made = Vec::new(alloc);
+    let mut start = 0;
+    let mut end = line_len(text);
+    while end < text.len() {
+        push(&mut made, &text[start..end])?;
+        start = end + 1;
+        end = start + line_len(&text[start..]);
     }
+    push(&mut made, &text[start..])?;
+    Ok(made)
 }
 
 /// Whether a normal form is listed.

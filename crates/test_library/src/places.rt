@@ -31,12 +31,10 @@ fn push(signs: &mut Vec<u8>, sign: u8) -> Result<(), Message> {
 
 /// Lists each `\|` of a cell.
 fn push_pipes(signs: &mut Vec<u8>, cell: &[u8]) -> Result<(), Message> {
-    let mut left = cell;
-    while let [byte, rest @ ..] = left {
-        if *byte == b'\\' && rest.starts_with(b"|") {
+    for (at, byte) in cell.iter().enumerate() {
+        if *byte == b'\\' && cell.get(at + 1) == Some(&b'|') {
             push(signs, b'\\')?;
         }
-        left = rest;
     }
     Ok(())
 }
