@@ -4,27 +4,20 @@
 # refused rises until a run meets no refusal (`scripts/refuse.c`).
 #
 # - Of `test_library`, those of one call of the library: `parse`, `parse_with`, `outline`, `outline_part`, `wrap::quote`,
-# `wrap::item`, `wrap::footnote`, and the `run` of `blocks`, all on one text, and those of `Parts` on another. What the
-# program asks for before and after the call is counted apart.
-# A refused run ends with status 3 and prints nothing, and the last run prints what is given here. The states that take
-# no memory
-#   answer while each request is refused.
+#   `wrap::item`, `wrap::footnote`, and the `run` of `blocks`, all on one text, and those of `Parts` on another. What the
+#   program asks for before and after the call is counted apart. A refused run ends with status 3 and prints nothing, and
+#   the last run prints what is given here. The states that take no memory answer while each request is refused.
 # - Of `blocks`, `events`, `plain_blocks`, `plain_inlines` and `examples_references`, those of the whole program: on the
-# texts of their stored runs, and
-# the first two with the argument `alerts` on each begin of a text with a byte order mark, frontmatter, headings of both
-# kinds,
-# quotes, a break, nested lists, an alert with a fence, HTML, definitions, in a quote and before an underline, a table
-# and a
-# footnote definition; the third on that text; `plain_inlines` on a text with each inline construct. The last parses its text with an inline layer, wraps it in a quote and
-# in an item,
-# and parses both; a reference in it goes over two lines of a quote, and is defined after it. A refused run ends with
-# status 3, says
-#   so on its standard error and prints nothing.
-# - Of `hoxalgurre`, those of each of its reports in both formats. What a refused run prints at most is how a JSON
-# report begins.
+#   texts of their stored runs, and the first two with the argument `alerts` on each begin of a text with a byte order
+#   mark, frontmatter, headings of both kinds, quotes, a break, nested lists, an alert with a fence, HTML, definitions, in
+#   a quote and before an underline, a table and a footnote definition; the third on that text; `plain_inlines` on a text
+#   with each inline construct. The last parses its text with an inline layer, wraps it in a quote and in an item, and
+#   parses both; a reference in it goes over two lines of a quote, and is defined after it. A refused run ends with status
+#   3, says so on its standard error and prints nothing.
+# - Of `hoxalgurre`, those of each of its reports in both formats. What a refused run prints at most is how a JSON report
+#   begins.
 #
-# No refused run ends as if nothing had been refused. How many refused runs there are at least is given for each
-# program.
+# No refused run ends as if nothing had been refused. How many refused runs there are at least is given for each program.
 set -euo pipefail
 cd "$(dirname "$0")/.."
 work=$(mktemp -d)
