@@ -126,6 +126,7 @@ fn call_here<T: Table>(tokenizer: &mut Tokenizer, first: StateName) -> State
 }
 
 /// Calls states one after another, from that of this name, which sees what is here, until one ends or waits.
+#[inline(always)]
 fn call_on<T: Table>(tokenizer: &mut Tokenizer, first: StateName, is_end: bool) -> State
     requires current { (world tokenizer.old).current ≡ looks (world tokenizer.old) }
     requires valid { valid T.scheme (world tokenizer.old) (State.Next first) }
