@@ -4,7 +4,9 @@ pub mod LinesFed
 pub mod Attempts
 pub mod Levels
 pub mod FlowTries
+pub mod LeafTried
 pub mod LineMet
+pub mod ContainersTried
 pub mod FlowSteps
 pub mod FlowReads
 pub mod LastLine

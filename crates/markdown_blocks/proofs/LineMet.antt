@@ -6,7 +6,7 @@
 use Rattle.std.proofs.Common.{◌≡◌, ◌⊎◌, inl, inr, ℕ, suc, ◌+◌, ◌^◌, ◌<◌, ◌≤◌, Bool, true, false, cond, List, [], ◌∷◌, ◌++◌}
 use Rattle.std.proofs.Common.{length, take, Option, Some, None, refl, sym, ap, ◌∙◌, subst, subst₂, append-nil, append_assoc}
 use Rattle.std.proofs.Common.{arith}
-use Rattle.std.specs.Prelude.{◌==◌, nat_lt, slice_get, slice_set}
+use Rattle.std.specs.Prelude.{nat_lt, not, slice_get, slice_set}
 use Rattle.std.specs.Option.{is_some}
 use Rattle.std.proofs.lemmas.Bool.{lt-ltb}
 use Rattle.std.proofs.lemmas.List.{length-append}
@@ -15,10 +15,8 @@ use Rattle.md_engine.specs.declared.configuration.ParseOptions.{ParseOptions}
 use Rattle.md_engine.specs.declared.event.Point.{Point}
 use Rattle.md_engine.specs.declared.state.Name.{Name as StateName}
 use Rattle.md_engine.specs.declared.state.Name.TheVariants as s
-use Rattle.md_engine.specs.declared.state.blank_line.State.TheVariants as blank_line
 use Rattle.md_engine.specs.declared.state.document.State.{State as DocumentState}
 use Rattle.md_engine.specs.declared.state.document.State.TheVariants as document
-use Rattle.md_engine.specs.declared.state.flow.State.{State as FlowState}
 use Rattle.md_engine.specs.declared.state.flow.State.TheVariants as flow
 use Rattle.md_engine.specs.declared.state.State.{State}
 use Rattle.md_engine.specs.declared.state.State.TheVariants.{Error, Ok, Nok, Next, Retry}
@@ -37,29 +35,31 @@ use Rattle.md_engine.specs.World.{Flags, Setting, World, closed, container_of, l
 use Rattle.md_engine.proofs.Keeps.{runs-setting}
 use Rattle.md_containers.specs.Interrupts.{interrupts}
 use Rattle.md_events.specs.Look.{looks_after, may_with}
-use Rattle.md_events.specs.Spaces.{IsRest, ends_line}
+use Rattle.md_events.specs.Spaces.{IsRest, any_size, ends_line}
 use Rattle.md_events.specs.Transition.{Transition}
 use Rattle.md_meaning.specs.State.{Container}
 use Rattle.md_registry.proofs.Registry.{container-laws, container-states}
 use Rattle.md_registry.proofs.RegistryContainers.{further-is, proceeds-same}
-use Rattle.md_registry.specs.Flow.{blank_line_code, existing_before_code, flow_end_code, following_all}
-use Rattle.md_registry.specs.Flow.{inside_code, leaf_front, leaf_transition}
-use Rattle.md_registry.specs.Flow.{row_transition, start_by, start_code, trial_code}
+use Rattle.md_flow.specs.LineRule.{first_state}
+use Rattle.md_registry.specs.Flow.{existing_before_code, flow_end_code, following_all, leaf_front, trial_code}
 use Rattle.md_registry.specs.FlowRule.{feeds}
 use Rattle.md_registry.specs.LineFlags.{asking, begun_line, kept_containers, next_container, was_continued}
 use Rattle.md_registry.specs.Registry.{MatchesContainer, asked_first, bars_containers, container_rules, continues_with}
-use Rattle.md_registry.specs.Registry.{leaf, may_continue, next_opener, opener_front, openers}
-use Rattle.md_registry.specs.Registry.{opens_with, proceeds_at, row, tried_at}
+use Rattle.md_registry.specs.Registry.{may_continue, next_opener, opener_front, openers}
+use Rattle.md_registry.specs.Registry.{opens_with, proceeds_at}
 use Rattle.md_registry.specs.States.{FlowStep, flow_table_scheme, flow_transition}
-use Rattle.proof_frame.specs.LeafName.{CodeFurther, CodeIndented, Fence, FenceFurther, GfmTable, HeadingAtx}
-use Rattle.proof_frame.specs.LeafName.{HeadingSetext, HtmlFlow, HtmlFurther, LeafName, ThematicBreak}
+use Rattle.proof_frame.specs.HeldLeaf.{met_by}
+use Rattle.proof_frame.specs.LeafName.{LeafName}
 use Rattle.proof_frame.specs.Passed.{Passed, passed_by, passed_here}
 use Rattle.proof_rows.proofs.FlowHeld.{IsNext, open-length, open-next}
 use Rattle.proof_rows.specs.TextRows.{text_rows, text_setting}
 use Rattle.proof_rows.specs.Valid.{AreOpen}
-use Rattle.markdown_blocks.specs.Fed.{fed, flow_begins, line_begins}
+use Rattle.markdown_blocks.specs.Fed.{fed, flow_begins, line_begins, tries_leaf}
 use Rattle.markdown_blocks.proofs.Attempts.{not-ended}
 use Rattle.markdown_blocks.proofs.FlowTries.{Continues, Ended, Tries, TriesLeft, called-low, tries-calls, tries-leaves}
+use Rattle.markdown_blocks.proofs.LeafTried.{FlowLeads, Follows_on, HasMet, IsFlow, IsPast, IsTriedAt, MeetsAfter}
+use Rattle.markdown_blocks.proofs.LeafTried.{MeetsAt, Tries_leaf, called-flow, flow-leads, flow-rest, frame_of, is_flow}
+use Rattle.markdown_blocks.proofs.LeafTried.{leads-tried, met-named, tried-after}
 use Rattle.markdown_blocks.proofs.LinesFed.{LineFed, leaf_after, line-fed, line_behaves, line_stop, none-or-ending}
 use Rattle.markdown_blocks.proofs.LinesFed.{open_after, text-within}
 
@@ -86,25 +86,6 @@ is_between document.ContainerNewBeforeNotBlockQuote = true
 is_between document.ContainerNewBeforeNotList = true
 is_between state = false
 
--- those of flow, from its leaf to the end of the line
-abbrev pub is_flow : StateName → Bool
-is_flow (s.Flow state) = true
-is_flow (s.Document document.FlowInside) = true
-is_flow (s.Document document.FlowEnd) = true
-is_flow name = false
-
-abbrev pub IsFlow : State → Type 0
-IsFlow (Next name) = is_flow name ≡ true
-IsFlow (Retry name) = is_flow name ≡ true
-IsFlow t = Unit {0}
-
-called-flow : (t : State) (name : StateName) → plain t ≡ Next name → IsFlow t → is_flow name ≡ true
-called-flow Ok name e is = cc
-called-flow Nok name e is = cc
-called-flow Error name e is = cc
-called-flow (Next m) name e is = let same : m ≡ name = cc in ap is_flow (sym same) ∙ is
-called-flow (Retry m) name e is = let same : m ≡ name = cc in ap is_flow (sym same) ∙ is
-
 between-all : (x : Bool) → is_between (following_all x) ≡ true
 between-all true = refl
 between-all false = refl
@@ -119,18 +100,6 @@ container-low : (k : ContainerKind) →
 container-low kind.BlockQuote = (omega arith, omega arith)
 container-low kind.ListItem = (omega arith, omega arith)
 container-low kind.GfmFootnoteDefinition = (omega arith, omega arith)
-
-leaf-low : (l : LeafName) → flow_table_scheme.level (leaf l).start ≤ 2
-leaf-low CodeIndented = omega arith
-leaf-low CodeFurther = omega arith
-leaf-low Fence = omega arith
-leaf-low FenceFurther = omega arith
-leaf-low HtmlFlow = omega arith
-leaf-low HtmlFurther = omega arith
-leaf-low HeadingAtx = omega arith
-leaf-low HeadingSetext = omega arith
-leaf-low ThematicBreak = omega arith
-leaf-low GfmTable = omega arith
 
 -- Attempts, each begun at a point, and continued at these states.
 pub record IsTrial (f : Frame) (ok nok : StateName) : Type 0 where
@@ -166,11 +135,13 @@ pub record Opening (under : Setting) (feed : Feed) (still : HeldLeaf) (t : State
       ((container_rules k).opens under.options (interrupts begin.flags) (feed begin.point) begin.point) begin) t v
 
 -- A leaf is tried.
-pub record InLeaf (under : Setting) (feed : Feed) (t : State) (v : World) : Type 0 where
+pub record InLeaf (under : Setting) (feed : Feed) (still : HeldLeaf) (t : State) (v : World) : Type 0 where
   pub f : Frame
   pub ok : IsFlow f.ok
   pub nok : IsFlow f.nok
+  pub past : IsPast f.ok
   pub o : Outcome
+  pub after : MeetsAfter f.nok still o
   pub tries : Tries under feed f o t v
 
 -- Where a run is on a line.
@@ -187,13 +158,10 @@ pub data OnLine (under : Setting) (feed : Feed) (still : HeldLeaf) (t : State) (
   IsOpening : Opening under feed still t v → OnLine under feed still t v
   HasOpened : plain t ≡ Next (s.Document document.ContainerNewAfter) → v.frames ≡ [] → v.flags.blank ≡ false →
       OnLine under feed still t v
-  IsInLeaf : InLeaf under feed t v → OnLine under feed still t v
-  InFlow : IsFlow t → v.frames ≡ [] → OnLine under feed still t v
+  IsInLeaf : InLeaf under feed still t v → OnLine under feed still t v
+  InFlow : IsFlow t → v.frames ≡ [] → MeetsAt t v.flags.leaf still → OnLine under feed still t v
 
 -- Calls.
-
-abbrev frame_of : World → StateName → StateName → Frame
-frame_of w ok nok = record { ok = Next ok; nok = Next nok; is_check = false; events_len = length w.events; point = w.point }
 
 -- an open container
 ask : (under : Setting) (feed : Feed) (still : HeldLeaf) (v : World) → v.setting ≡ under → IsRest v.scratch →
@@ -300,12 +268,20 @@ flow-front : (x : Bool) → is_flow (leaf_front x) ≡ true
 flow-front true = refl
 flow-front false = refl
 
+-- after the containers of a line, the line meets what they leave open
+begun-met : (all : Bool) (held still : HeldLeaf) → (held ≡ still) ⊎ (held ≡ held_leaf.None) →
+    HasMet (met_by all held) still
+begun-met all held still (inl same) = inl (all, ap (met_by all) same)
+begun-met true held still (inr none) = inr none
+begun-met false held still (inr none) = inr (ap (met_by false) none)
+
 -- any state before the leaf
 between-call : (under : Setting) (feed : Feed) (still : HeldLeaf) (v : World) → v.setting ≡ under → IsRest v.scratch →
     v.frames ≡ [] → Meets v.flags still → (d : DocumentState) → is_between d ≡ true →
     let x = flow_transition (s.Document d) (reading v) in OnLine under feed still x.to x.world
 between-call under feed still v kept rest none meets document.ContainersAfter is =
     InFlow (flow-front (is_some (asked_first (begun_line v.flags).leaf))) none
+    (inr (begun-met (not (nat_lt v.flags.continued (length v.flags.containers))) v.flags.leaf still meets.0))
 between-call under feed still v kept rest none meets document.ContainerNewBefore is =
     opens-call under feed still v kept rest none meets kind.BlockQuote _
 between-call under feed still v kept rest none meets document.ContainerNewBeforeNotBlockQuote is =
@@ -314,99 +290,27 @@ between-call under feed still v kept rest none meets document.ContainerNewBefore
     opens-call under feed still v kept rest none meets kind.GfmFootnoteDefinition _
 between-call under feed still v kept rest none meets d is = cc
 
--- States of flow: another follows, or a leaf is tried.
-data FlowLeads (w : World) (x : Transition) : Type 0 where
-  Follows_on : IsFlow x.to → x.world.frames ≡ w.frames → FlowLeads w x
-  Tries_leaf : (f : Frame) → IsFlow f.ok → IsFlow f.nok → x.world.frames ≡ f ∷ w.frames →
-      state_level flow_table_scheme x.to ≤ 2 → FlowLeads w x
-
-trial : (w v : World) (start ok nok : StateName) (may : Bool) → v.frames ≡ w.frames →
-    flow_table_scheme.level start ≤ 2 → is_flow ok ≡ true → is_flow nok ≡ true →
-    FlowLeads w (trial_code start ok nok v may)
-trial w v start ok nok true same low on otherwise =
-    Tries_leaf (frame_of v ok nok) on otherwise (ap (λ (fs : List Frame). frame_of v ok nok ∷ fs) same) low
-trial w v start ok nok false same low on otherwise = Follows_on otherwise same
-
-row-leads : (w : World) (ls : List LeafName) → FlowLeads w (row_transition ls w)
-row-leads w [] = Follows_on refl refl
-row-leads w (l ∷ ls) = trial w w (leaf l).start _ _ true refl (leaf-low l) refl refl
-
-start-leads : (w : World) (o : Option ℕ) → FlowLeads w (start_code w o)
-start-leads w None = Follows_on refl refl
-start-leads w (Some b) = go _
-  where
-    go : (x : Bool) → FlowLeads w (start_by w b x)
-    go true = Follows_on refl refl
-    go false = row-leads w (row b)
-
-blank-leads : (w : World) (ends may : Bool) → FlowLeads w (blank_line_code w ends may)
-blank-leads w true may = Follows_on refl refl
-blank-leads w false may = trial w w (s.BlankLine blank_line.Start) _ _ may refl (omega arith) refl refl
-
-leaf-leads : (w : World) (o : Option LeafName) → FlowLeads w (leaf_transition o w)
-leaf-leads w None = Follows_on tt refl
-leaf-leads w (Some l) = trial w w (leaf l).start _ _ _ refl (leaf-low l) refl refl
-
-inside-leads : (w : World) (o : Option LeafName) → FlowLeads w (inside_code w o)
-inside-leads w None = Follows_on refl refl
-inside-leads w (Some l) = trial w _ (leaf l).start _ _ true refl (leaf-low l) refl refl
-
-own-leads : (w : World) (state : FlowState) → FlowLeads w (flow_transition (s.Flow state) w)
-own-leads w flow.Start = start-leads w w.current
-own-leads w flow.BlankLineBefore = blank-leads w _ _
-own-leads w flow.BeforeContent =
-    Tries_leaf (record {
-      ok = Next (s.Flow flow.After);
-      nok = Nok;
-      is_check = false;
-      events_len = length w.events;
-      point = w.point;
-    }) refl tt refl (omega arith)
-own-leads w flow.BlankLineAfter = Follows_on refl refl
-own-leads w flow.LeafAfter = Follows_on refl refl
-own-leads w flow.After = Follows_on refl refl
-own-leads w state = leaf-leads w (tried_at state)
-
-end-leads : (w v : World) (o : Option ℕ) → v.frames ≡ w.frames → feeds (s.Document document.FlowEnd) o ≡ 0 →
-    FlowLeads w (flow_end_code v o)
-end-leads w v None same none = Follows_on tt same
-end-leads w v (Some b) same none = go (b == 10) refl none
-  where
-    over : Transition
-    over = flow_end_code v (Some 10)
-
-    refused : Transition
-    refused = record { to = Nok; world = v }
-
-    go : (x : Bool) → (b == 10) ≡ x → (let lines : ℕ = cond x 1 0 in lines ≡ 0) → FlowLeads w (flow_end_code v (Some b))
-    go true e none = cc
-    go false e none = rw e (by same)
-      where
-        by : v.frames ≡ w.frames → FlowLeads w refused
-        by same = Follows_on tt same
-
-flow-leads : (name : StateName) (w : World) → is_flow name ≡ true → feeds name w.current ≡ 0 →
-    FlowLeads w (flow_transition name w)
-flow-leads (s.Flow state) w is none = own-leads w state
-flow-leads (s.Document document.FlowInside) w is none = inside-leads w (asked_first w.flags.leaf)
-flow-leads (s.Document document.FlowEnd) w is none =
-    end-leads w (closed w (kept_containers w.flags) w.flags.line_end) w.current refl none
-flow-leads (s.Document state) w is none = cc
-flow-leads name w is none = cc
-
-flow-call : (under : Setting) (feed : Feed) (still : HeldLeaf) (name : StateName) (v : World) → v.frames ≡ [] →
-    (x : Transition) → FlowLeads (reading v) x → OnLine under feed still x.to x.world
-flow-call under feed still name v none x (Follows_on to frames) = InFlow to (frames ∙ none)
-flow-call under feed still name v none x (Tries_leaf f ok nok frames low) =
+-- a state of flow
+flow-call : (under : Setting) (feed : Feed) (still : HeldLeaf) (v : World) → v.frames ≡ [] → IsRest v.scratch →
+    ((w : World) → length (feed w.point) ≤ any_size) → (x : Transition) → FlowLeads still (reading v) x →
+    OnLine under feed still x.to x.world
+flow-call under feed still v none rest few x (Follows_on to frames meets) = InFlow to (frames ∙ none) meets
+flow-call under feed still v none rest few x (Tries_leaf start f ok nok past frames low to kept tried) =
     IsInLeaf (record {
       f = f;
       ok = ok;
       nok = nok;
+      past = past;
       o = whole_outcome (line_behaves under) feed x.to (record x.world { frames = [] });
+      after =
+          subst
+          (λ (t : State).
+          MeetsAfter f.nok still (whole_outcome (line_behaves under) feed t (record x.world { frames = [] }))) (sym to)
+          (tried-after under feed x.world start f.nok still (subst IsRest (sym kept) rest) (few x.world) tried);
       tries = record {
         fs = [];
         frames = frames ∙ ap (λ (fs : List Frame). f ∷ fs) none;
-        low = low;
+        low = subst (λ (t : State). state_level flow_table_scheme t ≤ 2) (sym to) low;
         lows = tt;
         becomes = refl;
       };
@@ -426,6 +330,10 @@ line-calls under feed still t v t' v' follows kept at on c none = go on
 
     F : Setting → Type 0
     F x = Follows feed x true
+
+    -- so few cells are left
+    few : (w : World) → length (feed w.point) ≤ any_size
+    few w = let short = follows.short w.point in omega (arith, short)
 
     -- what the transition of this name leads to
     by : (name : StateName) → c.name ≡ name →
@@ -487,13 +395,17 @@ line-calls under feed still t v t' v' follows kept at on c none = go on
           f = a.f;
           ok = a.ok;
           nok = a.nok;
+          past = a.past;
           o = a.o;
+          after = a.after;
           tries = tries-calls under feed a.f a.o t v t' v' (subst F (sym kept) follows) kept at a.tries c;
         })
-    go (InFlow is frames) =
+    go (InFlow is frames meets) =
+        let flow : is_flow c.name ≡ true = called-flow t c.name c.names is in
         by c.name refl
-        (flow-call under feed still c.name v frames (flow_transition c.name (reading v))
-        (flow-leads c.name (reading v) (called-flow t c.name c.names is) none))
+        (flow-call under feed still v frames (flow-rest c.name v flow (subst Q c.names at)) few
+        (flow_transition c.name (reading v))
+        (flow-leads still c.name (reading v) flow none (met-named t c.name v.flags.leaf still c.names meets)))
 
 -- Ends of attempts.
 
@@ -592,6 +504,20 @@ left-none : (v : World) (f : Frame) (back : Bool) → (left v [] f back).frames 
 left-none v f true = refl
 left-none v f false = refl
 
+left-leaf : (v : World) (f : Frame) (back : Bool) → (left v [] f back).flags.leaf ≡ v.flags.leaf
+left-leaf v f true = refl
+left-leaf v f false = refl
+
+-- where a leaf has refused the line, it is met as before
+leaf-next : (under : Setting) (feed : Feed) (still : HeldLeaf) (f : Frame) (t : State) (v : World) (o : Outcome) →
+    IsEnd t → proceeds (line_behaves under) t (feed v.point) (here v) ≡ o → IsPast f.ok → MeetsAfter f.nok still o →
+    MeetsAt (next_of f t) v.flags.leaf still
+leaf-next under feed still f Ok v o end is past after = inl past
+leaf-next under feed still f Nok v o end is past after = subst (MeetsAfter f.nok still) (sym is) after
+leaf-next under feed still f Error v o end is past after = absurd end
+leaf-next under feed still f (Next m) v o end is past after = absurd end
+leaf-next under feed still f (Retry m) v o end is past after = absurd end
+
 line-leaves : (under : Setting) (feed : Feed) (still : HeldLeaf) (t : State) (v : World) (t' : State) (v' : World) →
     valid flow_table_scheme v (plain t) → OnLine under feed still t v → Leaves t v t' v' → OnLine under feed still t' v'
 line-leaves under feed still t v t' v' at on l = go on
@@ -601,7 +527,7 @@ line-leaves under feed still t v t' v' at on l = go on
     go (HasAsked done cs to frames are continued keeps) = absurd (not-ended t _ to l.end)
     go (Between d to is frames meets) = absurd (not-ended t _ to l.end)
     go (HasOpened to frames blank) = absurd (not-ended t _ to l.end)
-    go (InFlow is frames) = let bad = sym frames ∙ l.frames in cc
+    go (InFlow is frames meets) = let bad = sym frames ∙ l.frames in cc
     go (IsAsking a) = by (tries-leaves under feed a.f _ t v t' v' at a.tries l)
       where
         by : TriesLeft under feed a.f
@@ -643,10 +569,23 @@ line-leaves under feed still t v t' v' at on l = go on
     go (IsInLeaf a) = by (tries-leaves under feed a.f a.o t v t' v' at a.tries l)
       where
         by : TriesLeft under feed a.f a.o t v t' v' → OnLine under feed still t' v'
-        by (Continues tries) = IsInLeaf (record { f = a.f; ok = a.ok; nok = a.nok; o = a.o; tries = tries })
+        by (Continues tries) =
+            IsInLeaf (record {
+              f = a.f;
+              ok = a.ok;
+              nok = a.nok;
+              past = a.past;
+              o = a.o;
+              after = a.after;
+              tries = tries;
+            })
         by (Ended end next new is) =
             InFlow (subst IsFlow (sym next) (flow-next a.f t a.ok a.nok))
             (ap (λ (w : World). w.frames) new ∙ left-none v a.f (leads_back a.f t))
+            (subst (λ (w : World). MeetsAt t' w.flags.leaf still) (sym new)
+            (subst (λ (m : State). MeetsAt m (left v [] a.f (leads_back a.f t)).flags.leaf still) (sym next)
+            (subst (λ (on : HeldLeaf). MeetsAt (next_of a.f t) on still) (sym (left-leaf v a.f (leads_back a.f t)))
+            (leaf-next under feed still a.f t v a.o end is a.past a.after))))
 
 -- Lines.
 
@@ -736,5 +675,67 @@ containers-met under feed still t v on to = go on
     go (IsAsking a) = absurd (high a.tries.low)
     go (IsOpening a) = absurd (high a.tries.low)
     go (IsInLeaf a) = absurd (high a.tries.low)
-    go (InFlow is frames) =
+    go (InFlow is frames meets) =
         let bad : false ≡ true = called-flow t (s.Document document.ContainersAfter) to is in cc
+
+-- Where a leaf is tried.
+
+-- all states that try one are of flow, take no ending, and are higher than what they try
+pub tries-flow : (name : StateName) → tries_leaf name ≡ true → is_flow name ≡ true
+tries-flow (s.Flow state) e = refl
+tries-flow (s.Document document.FlowInside) e = refl
+tries-flow (s.Document state) e = cc
+tries-flow name e = cc
+
+pub tries-none : (name : StateName) (o : Option ℕ) → tries_leaf name ≡ true → feeds name o ≡ 0
+tries-none name o e = go (none-or-ending name o)
+  where
+    go : (feeds name o ≡ 0) ⊎ ((name ≡ s.Document document.FlowEnd) × (o ≡ Some 10)) → feeds name o ≡ 0
+    go (inl none) = none
+    go (inr ending) = let bad : false ≡ true = ap tries_leaf (sym ending.0) ∙ e in cc
+
+tries-high : (name : StateName) → tries_leaf name ≡ true → flow_table_scheme.level name ≤ 2 → ⊥
+tries-high (s.Flow flow.Start) e low = absurd (omega (arith, low))
+tries-high (s.Flow state) e low = absurd (omega (arith, low))
+tries-high (s.Document document.FlowInside) e low = absurd (omega (arith, low))
+tries-high (s.Document state) e low = cc
+tries-high name e low = cc
+
+between-other : (d : DocumentState) → is_between d ≡ true → tries_leaf (s.Document d) ≡ true → ⊥
+between-other document.ContainersAfter is e = cc
+between-other document.ContainerNewBefore is e = cc
+between-other document.ContainerNewBeforeNotBlockQuote is e = cc
+between-other document.ContainerNewBeforeNotList is e = cc
+between-other d is e = cc
+
+pub leaf-tried : (under : Setting) (feed : Feed) (still : HeldLeaf) (t : State) (v : World) (t' : State) (v' : World) →
+    OnLine under feed still t v → (c : Calls FlowStep true t v t' v') → feeds c.name (looks v) ≡ 0 →
+    tries_leaf c.name ≡ true → (l : LeafName) → t' ≡ Retry (first_state l) → IsTriedAt l (reading v) v' still
+leaf-tried under feed still t v t' v' on c none tries l to = go on
+  where
+    P : StateName → Type 0
+    P m = tries_leaf m ≡ true
+
+    -- no other state is called here
+    other : (d : DocumentState) → plain t ≡ Next (s.Document d) → (tries_leaf (s.Document d) ≡ true → ⊥) →
+        IsTriedAt l (reading v) v' still
+    other d named not =
+        let same : c.name ≡ s.Document d = let e = c.names in cc in absurd (not (subst P same tries))
+
+    low : state_level flow_table_scheme t ≤ 2 → IsTriedAt l (reading v) v' still
+    low le = absurd (tries-high c.name tries (called-low t c.name c.names le))
+
+    go : OnLine under feed still t v → IsTriedAt l (reading v) v' still
+    go (Asks done cs named frames are continued keeps) = other document.ContainerExistingBefore named (λ e. cc)
+    go (HasAsked done cs named frames are continued keeps) = other document.ContainerExistingAfter named (λ e. cc)
+    go (Between d named is frames meets) = other d named (between-other d is)
+    go (HasOpened named frames blank) = other document.ContainerNewAfter named (λ e. cc)
+    go (IsAsking a) = low a.tries.low
+    go (IsOpening a) = low a.tries.low
+    go (IsInLeaf a) = low a.tries.low
+    go (InFlow is frames meets) =
+        subst (λ (w : World). IsTriedAt l (reading v) w still) (sym c.step.new_is)
+        (leads-tried still (reading v) (flow_transition c.name (reading v)) l
+        (flow-leads still c.name (reading v) (tries-flow c.name tries) none
+        (met-named t c.name v.flags.leaf still c.names meets))
+        (sym c.step.to_is ∙ to))

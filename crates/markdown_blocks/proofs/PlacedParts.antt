@@ -15,16 +15,21 @@ use Rattle.md_events.specs.Events.Nested.{is_exit}
 use Rattle.md_events.specs.Events.Tiles.{chunks, inside_part, is_part, part_at, part_kind, part_of, parts}
 use Rattle.md_events.specs.Substituted.{chunk_of}
 use Rattle.md_events.specs.TextPart.{AreBlocks, Document, IsTextPartAt, is_of_block, last_of_block, place_by}
-use Rattle.markdown_blocks.specs.PartPlaces.{IsNext, begins_chunk, begins_part, holds_chunk, last_after, part_places, places_at}
+use Rattle.markdown_blocks.specs.PartPlaces.{IsNext, begins_chunk, begins_part, chunk_at, chunks_in, holds_chunk}
+use Rattle.markdown_blocks.specs.PartPlaces.{last_after, part_places, places_at}
 
 -- Chunks of a part.
 
--- the first of some chunks, or that there is none, by the kinds of two events of which the second may end the part
+-- chunks, with one before them, if there is one
+abbrev listed : Option Chunk → List Chunk → List Chunk
+listed None list = list
+listed (Some chunk) list = chunk ∷ list
+
+-- those from an event, by the kinds of two events of which the second may end the part
 some-chunk : (e f : Event) (es : List Event) (at next : Kind) (ends linked : Bool) → is_linked e ≡ linked →
-    not
-    (is_none (cond (ends && is_exit next) [] (chunks (piece_of e f at next ++ pieces_from f (inside_part es))))) ≡
-    (not (is_exit at) && linked && is_exit next && not ends)
-    || not (is_none (cond (ends && is_exit next) [] (chunks (pieces_from f (inside_part es)))))
+    cond (ends && is_exit next) [] (chunks (piece_of e f at next ++ pieces_from f (inside_part es))) ≡
+    listed (cond (not (is_exit at) && linked && is_exit next && not ends) (Some (chunk_of e f)) None)
+    (cond (ends && is_exit next) [] (chunks (pieces_from f (inside_part es))))
 some-chunk e f es Enter Enter true true is = refl
 some-chunk e f es Enter Enter true false is = refl
 some-chunk e f es Enter Enter false true is = refl
@@ -34,15 +39,11 @@ some-chunk e f es Enter Exit true false is = refl
 some-chunk e f es Enter Exit false true is =
     ap
     (λ (x : Bool).
-    not
-    (is_none (cond x (chunk_of e f ∷ chunks (pieces_from f (inside_part es)))
-    (chunks (pieces_from f (inside_part es)))))) is
+    cond x (chunk_of e f ∷ chunks (pieces_from f (inside_part es))) (chunks (pieces_from f (inside_part es)))) is
 some-chunk e f es Enter Exit false false is =
     ap
     (λ (x : Bool).
-    not
-    (is_none (cond x (chunk_of e f ∷ chunks (pieces_from f (inside_part es)))
-    (chunks (pieces_from f (inside_part es)))))) is
+    cond x (chunk_of e f ∷ chunks (pieces_from f (inside_part es))) (chunks (pieces_from f (inside_part es)))) is
 some-chunk e f es Exit Enter true true is = refl
 some-chunk e f es Exit Enter true false is = refl
 some-chunk e f es Exit Enter false true is = refl
@@ -52,22 +53,18 @@ some-chunk e f es Exit Exit true false is = refl
 some-chunk e f es Exit Exit false true is = refl
 some-chunk e f es Exit Exit false false is = refl
 
--- those from an event that does not end the part
+-- where it does not end the part
 chunks-begin : (e : Event) (es : List Event) →
-    not (is_none (chunks (pieces (e ∷ inside_part es)))) ≡ begins_chunk e es || holds_chunk es
+    chunks (pieces (e ∷ inside_part es)) ≡ listed (chunk_at e es) (chunks_in es)
 chunks-begin e [] = refl
 chunks-begin e (f ∷ es) =
-    ap (λ (list : List Event). not (is_none (chunks (pieces_from e list)))) refl
-    ∙ cut (is_part f.name && is_exit f.kind)
+    cut (is_part f.name && is_exit f.kind)
     ∙ some-chunk e f es e.kind f.kind (is_part f.name) (is_linked e) refl
-    ∙ ap
-    (λ (x : List Chunk).
-    (not (is_exit e.kind) && is_linked e && is_exit f.kind && not (is_part f.name)) || not (is_none x))
-    (uncut (is_part f.name && is_exit f.kind))
+    ∙ ap (listed (chunk_at e (f ∷ es))) (uncut (is_part f.name && is_exit f.kind))
   where
     cut : (x : Bool) →
-        not (is_none (chunks (pieces_from e (cond x [] (f ∷ inside_part es))))) ≡
-        not (is_none (cond x [] (chunks (piece_of e f e.kind f.kind ++ pieces_from f (inside_part es)))))
+        chunks (pieces_from e (cond x [] (f ∷ inside_part es))) ≡
+        cond x [] (chunks (piece_of e f e.kind f.kind ++ pieces_from f (inside_part es)))
     cut true = refl
     cut false = refl
 
@@ -76,19 +73,50 @@ chunks-begin e (f ∷ es) =
     uncut true = refl
     uncut false = refl
 
--- whether there is one, an event later
-pub holds-next : (e : Event) (es : List Event) →
-    holds_chunk (e ∷ es) ≡ cond (is_part e.name && is_exit e.kind) false (begins_chunk e es || holds_chunk es)
-holds-next e es = go (is_part e.name && is_exit e.kind)
+-- the chunks of a part, an event later
+chunks-next : (e : Event) (es : List Event) →
+    chunks_in (e ∷ es) ≡ cond (is_part e.name && is_exit e.kind) [] (listed (chunk_at e es) (chunks_in es))
+chunks-next e es = go (is_part e.name && is_exit e.kind)
   where
     go : (x : Bool) →
-        not (is_none (chunks (pieces (cond x [] (e ∷ inside_part es))))) ≡
-        cond x false (begins_chunk e es || holds_chunk es)
+        chunks (pieces (cond x [] (e ∷ inside_part es))) ≡ cond x [] (listed (chunk_at e es) (chunks_in es))
     go true = refl
     go false = chunks-begin e es
 
+-- where it does not end, the one that begins with the event is the first,
+chunks-here : (e : Event) (es : List Event) (chunk : Chunk) → (is_part e.name && is_exit e.kind) ≡ false →
+    chunk_at e es ≡ Some chunk → chunks_in (e ∷ es) ≡ chunk ∷ chunks_in es
+chunks-here e es chunk inside begins =
+    chunks-next e es ∙ ap (λ (x : Bool). cond x [] (listed (chunk_at e es) (chunks_in es))) inside
+    ∙ ap (λ (o : Option Chunk). listed o (chunks_in es)) begins
+
+-- and where none does, all are among the events after this one
+chunks-later : (e : Event) (es : List Event) → (is_part e.name && is_exit e.kind) ≡ false →
+    chunk_at e es ≡ None → chunks_in (e ∷ es) ≡ chunks_in es
+chunks-later e es inside begins =
+    chunks-next e es ∙ ap (λ (x : Bool). cond x [] (listed (chunk_at e es) (chunks_in es))) inside
+    ∙ ap (λ (o : Option Chunk). listed o (chunks_in es)) begins
+
+-- whether there is one, an event later
+holds-next : (e : Event) (es : List Event) →
+    holds_chunk (e ∷ es) ≡ cond (is_part e.name && is_exit e.kind) false (begins_chunk e es || holds_chunk es)
+holds-next e es =
+    ap (λ (list : List Chunk). not (is_none list)) (chunks-next e es) ∙ go es (is_part e.name && is_exit e.kind)
+  where
+    some : (begins : Bool) (chunk : Chunk) (list : List Chunk) →
+        not (is_none (listed (cond begins (Some chunk) None) list)) ≡ begins || not (is_none list)
+    some true chunk list = refl
+    some false chunk list = refl
+
+    go : (es : List Event) (x : Bool) →
+        not (is_none (cond x [] (listed (chunk_at e es) (chunks_in es)))) ≡
+        cond x false (begins_chunk e es || holds_chunk es)
+    go es true = refl
+    go [] false = refl
+    go (f ∷ es) false = some (begins_chunk e (f ∷ es)) (chunk_of e f) (chunks_in (f ∷ es))
+
 -- where a chunk begins there is one
-pub holds-here : (e : Event) (es : List Event) → (is_part e.name && is_exit e.kind) ≡ false → begins_chunk e es ≡ true →
+holds-here : (e : Event) (es : List Event) → (is_part e.name && is_exit e.kind) ≡ false → begins_chunk e es ≡ true →
     holds_chunk (e ∷ es) ≡ true
 holds-here e es inside begins =
     holds-next e es
@@ -96,7 +124,7 @@ holds-here e es inside begins =
     ∙ ap (λ (x : Bool). x || holds_chunk es) begins
 
 -- where none does, it is among the events after this one
-pub holds-later : (e : Event) (es : List Event) → (is_part e.name && is_exit e.kind) ≡ false →
+holds-later : (e : Event) (es : List Event) → (is_part e.name && is_exit e.kind) ≡ false →
     begins_chunk e es ≡ false → holds_chunk (e ∷ es) ≡ holds_chunk es
 holds-later e es inside begins =
     holds-next e es
@@ -104,7 +132,7 @@ holds-later e es inside begins =
     ∙ ap (λ (x : Bool). x || holds_chunk es) begins
 
 -- and where the part ends there is none
-pub holds-none : (e : Event) (es : List Event) → (is_part e.name && is_exit e.kind) ≡ true →
+holds-none : (e : Event) (es : List Event) → (is_part e.name && is_exit e.kind) ≡ true →
     holds_chunk (e ∷ es) ≡ false
 holds-none e es ends =
     holds-next e es ∙ ap (λ (x : Bool). cond x false (begins_chunk e es || holds_chunk es)) ends
@@ -272,3 +300,49 @@ places-next (e ∷ es) d last have new all some is at =
     (is ∙ ap (λ (l : List Event). have ++ places_at last e l) rest)
     ∙ append_assoc have (places_at last e es) (part_places (last_after last e) es)
     ∙ at
+
+-- One part that is looked for.
+
+-- Some events are left of blocks that are searched, with the last event of a block before them.
+pub record IsSearched (blocks : List Event) (last : Option Event) (left : List Event) : Type 0 where
+  pub before : List Event
+  pub are : blocks ≡ before ++ left
+  pub last_is : last ≡ last_of_block before
+
+pub search-next : (blocks left : List Event) (last : Option Event) (d : Event) → 0 < length left →
+    IsSearched blocks last left →
+    IsSearched blocks (last_after last (get_or left 0 d)) (take (length left - 1) (drop 1 left))
+search-next blocks [] last d some at = absurd (omega arith)
+search-next blocks (e ∷ es) last d some at =
+    subst (IsSearched blocks (last_after last e)) (sym (take_rest (e ∷ es) 1))
+    (record {
+      before = at.before ++ e ∷ [];
+      are = at.are ∙ sym (append_assoc at.before (e ∷ []) es);
+      last_is = ap (λ (o : Option Event). last_after o e) at.last_is ∙ sym (last-from None at.before e);
+    })
+
+-- Chunks of a part that are compared.
+
+pub awaited-here-at : (left : List Event) (d : Event) (chunk x : Chunk) (all awaited list : List Chunk) →
+    0 < length left → (is_part (get_or left 0 d).name && is_exit (get_or left 0 d).kind) ≡ false →
+    chunk_at (get_or left 0 d) (take (length left - 1) (drop 1 left)) ≡ Some chunk → 0 < length awaited →
+    get_or awaited 0 x ≡ chunk → (chunks_in left ≡ awaited → all ≡ list) →
+    chunks_in (take (length left - 1) (drop 1 left)) ≡ take (length awaited - 1) (drop 1 awaited) → all ≡ list
+awaited-here-at [] d chunk x all awaited list some inside begins one same on are = absurd (omega arith)
+awaited-here-at (e ∷ es) d chunk x all [] list some inside begins one same on are = absurd (omega arith)
+awaited-here-at (e ∷ es) d chunk x all (first ∷ others) list some inside begins one same on are =
+    let rest : take (length (e ∷ es) - 1) (drop 1 (e ∷ es)) ≡ es = take_rest (e ∷ es) 1 in
+    on
+    (chunks-here e es chunk inside (ap (chunk_at e) (sym rest) ∙ begins)
+    ∙ ap (λ (l : List Chunk). chunk ∷ l) (ap chunks_in (sym rest) ∙ are ∙ take_rest (first ∷ others) 1)
+    ∙ ap (λ (c : Chunk). c ∷ others) (sym same))
+
+pub awaited-later-at : (left : List Event) (d : Event) (all awaited list : List Chunk) → 0 < length left →
+    (is_part (get_or left 0 d).name && is_exit (get_or left 0 d).kind) ≡ false →
+    chunk_at (get_or left 0 d) (take (length left - 1) (drop 1 left)) ≡ None →
+    (chunks_in left ≡ awaited → all ≡ list) →
+    chunks_in (take (length left - 1) (drop 1 left)) ≡ awaited → all ≡ list
+awaited-later-at [] d all awaited list some inside begins on are = absurd (omega arith)
+awaited-later-at (e ∷ es) d all awaited list some inside begins on are =
+    let rest : take (length (e ∷ es) - 1) (drop 1 (e ∷ es)) ≡ es = take_rest (e ∷ es) 1 in
+    on (chunks-later e es inside (ap (chunk_at e) (sym rest) ∙ begins) ∙ ap chunks_in (sym rest) ∙ are)

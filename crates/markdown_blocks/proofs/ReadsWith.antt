@@ -69,7 +69,7 @@ module _ (state : ParseState) (start : Point) (found : Found) (new : World) (mar
 
   has : HasBlocks state.options.now state.bytes.now
   has =
-      has-blocks state.options.now state.bytes.now ahead.built ahead.utf8 ahead.small
+      has-blocks state.options.now state.bytes.now ahead.built ahead.small
       (events-placed state.bytes.now (exact state.options.now state.bytes.now)
       (subst (ArePlaced state.bytes.now) blocks-are
       (All-append (λ (e : Event). IsPlaced state.bytes.now e.point) mark items ahead.mark_placed ahead.items_placed)))
@@ -140,7 +140,24 @@ module _ (state : ParseState) (start : Point) (found : Found) (new : World) (mar
             blocks-held bytes tiled.0.blocks tiled.0.covers tiled.0.block_list.pieces_are tiled.0.block_list.chunks;
         outlined =
             outlined-layer bytes (reads (document_of state)) events frame tiled.0
-            (subst (λ (l : List Event). IsOutlined (plain_read bytes l) bytes) (sym tiled.1) has.outlined);
+            (subst (λ (l : List Event). IsOutlined (plain_read bytes l) bytes) (sym tiled.1) (has.outlined ahead.utf8));
         definitions = known.definitions ∙ ap (λ (bs : Blocks). (labels bs).definitions) (sym shows);
         footnotes = known.footnotes ∙ ap (λ (bs : Blocks). (labels bs).footnotes) (sym shows);
       }
+
+-- The exact list of a document are its blocks, where all of its labels are known.
+pub blocks-again : (document : Document) (known blocks : List Event) → IsWithoutMdx document.options →
+    AreBlocks document known → blocks ≡ exact document.options document.bytes → ArePlaced document.bytes blocks →
+    AreBlocks document blocks
+blocks-again document known blocks built are is placed =
+    let has : HasBlocks document.options document.bytes = has-blocks document.options document.bytes built are.sized
+    (events-placed document.bytes (exact document.options document.bytes) (subst (ArePlaced document.bytes) is placed)) in
+    subst (AreBlocks document) (sym is)
+    (record {
+      sized = are.sized;
+      list = has.list;
+      covers = has.covers;
+      spells = has.spells;
+      definitions = are.definitions;
+      footnotes = are.footnotes;
+    })

@@ -268,12 +268,12 @@ pub record HasBlocks (options : ParseOptions) (bytes : List ℕ) : Type 0 where
   pub list : IsBlockList bytes (exact options bytes)
   pub covers : Covers first_point (pieces (exact options bytes)) (end_point bytes)
   pub spells : spelled (exact options bytes) bytes ≡ tree options bytes
-  pub outlined : IsOutlined (plain_read bytes (exact options bytes)) bytes
+  pub outlined : IsUtf8 bytes → IsOutlined (plain_read bytes (exact options bytes)) bytes
   pub empty : bytes ≡ [] → exact options bytes ≡ []
 
-pub has-blocks : (options : ParseOptions) (bytes : List ℕ) → IsWithoutMdx options → IsUtf8 bytes →
-    length bytes < 2 ^ 61 → are_placed bytes (exact options bytes) ≡ true → HasBlocks options bytes
-has-blocks options bytes built utf8 small placed =
+pub has-blocks : (options : ParseOptions) (bytes : List ℕ) → IsWithoutMdx options → length bytes < 2 ^ 61 →
+    are_placed bytes (exact options bytes) ≡ true → HasBlocks options bytes
+has-blocks options bytes built small placed =
     let p : Point = body_point options bytes in
     let lines : List (List ℕ) = lines_of options bytes in
     let rows : List Row = rows_of options bytes in
@@ -311,7 +311,7 @@ has-blocks options bytes built utf8 small placed =
           ∙ listed-spelled bytes events are_valid ∙ ap grouped spells
           ∙ fronts-grouped begins.block (body_of options bytes p) begins.kind
           ∙ sym (tree-body options bytes p front begins);
-      outlined =
+      outlined = λ utf8.
           subst (λ (l : List Event). IsOutlined l bytes) (read-is options bytes built small)
           (listed-outlined bytes events
           (front-unlisted bytes p front body part

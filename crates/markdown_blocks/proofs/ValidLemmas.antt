@@ -3,7 +3,7 @@
 use Rattle.md_engine.specs.declared.tokenizer.held_leaf.HeldLeaf.{HeldLeaf}
 use Rattle.md_engine.specs.declared.tokenizer.held_leaf.HeldLeaf.TheVariants as held_leaf
 use Rattle.std.proofs.Common.{◌≡◌, ℕ, zero, suc, ◌^◌, ◌<◌, ◌≤◌, true, List, [], ◌∷◌, length, take, drop}
-use Rattle.std.proofs.Common.{refl, ap, sym, ◌∙◌, subst, inl, inr}
+use Rattle.std.proofs.Common.{refl, ap, sym, ◌∙◌, subst, ◌⊎◌, inl, inr, Bool}
 use Rattle.std.specs.Prelude.{nat_lt, not}
 use Rattle.md_engine.specs.declared.configuration.ParseOptions.{ParseOptions}
 use Rattle.md_engine.specs.declared.event.Point.{Point}
@@ -12,32 +12,42 @@ use Rattle.md_engine.specs.declared.state.Name.TheVariants as s
 use Rattle.md_engine.specs.declared.state.content.State.TheVariants as content
 use Rattle.md_engine.specs.declared.state.document.State.TheVariants as document
 use Rattle.md_engine.specs.declared.state.State.{State}
-use Rattle.md_engine.specs.declared.state.State.TheVariants.{Next, Ok}
-use Rattle.md_engine.specs.Run.{Calls, Runs, plain}
+use Rattle.md_engine.specs.declared.state.State.TheVariants.{Next, Ok, Retry}
+use Rattle.md_engine.specs.declared.tokenizer.container.name.ContainerKind.{ContainerKind}
+use Rattle.md_engine.specs.Run.{Calls, Runs, plain, reading as seeing}
 use Rattle.md_engine.specs.Scheme.{valid}
 use Rattle.md_engine.specs.TextFeed.{text_feed}
-use Rattle.md_engine.specs.World.{Flags, Setting, World}
+use Rattle.md_engine.specs.World.{Flags, Setting, World, looks}
 use Rattle.md_engine.proofs.Keeps.{runs-setting}
 use Rattle.std.proofs.lemmas.List.{length-map}
 use Rattle.md_meaning.specs.Preamble.{rest_at}
 use Rattle.md_meaning.specs.Rest.{Rest}
 use Rattle.md_events.specs.Events.Spelled.{Reading, read, unread}
 use Rattle.md_events.specs.Spaces.{IsRest}
-use Rattle.md_meaning.specs.State.{At, Container, NoLeaf, Path, spot}
+use Rattle.md_flow.specs.LineRule.{first_state, further_state, opener_state}
+use Rattle.md_meaning.specs.State.{At, Container, Leaf, NoLeaf, Path, spot}
 use Rattle.md_meaning.specs.Step.{spot_of, step, steps}
 use Rattle.md_meaning.specs.Texts.{split_lines}
 use Rattle.md_meaning.specs.Tree.{End}
 use Rattle.proof_frame.specs.Change.{open_following}
 use Rattle.proof_frame.specs.Closed.{close_containers}
-use Rattle.markdown_blocks.specs.Fed.{FlowRan, AfterLines, IsLineMet, fed, flow_begins, last_leaves, line_begins, rests_from}
+use Rattle.proof_frame.specs.HeldLeaf.{kind_of_leaf, met_by}
+use Rattle.proof_frame.specs.LeafName.{LeafName}
+use Rattle.markdown_blocks.specs.Fed.{AfterLines, FlowRan, IsAtRest, IsFurtherMet, IsLeafMet, IsLineMet, IsOpenerMet}
+use Rattle.markdown_blocks.specs.Fed.{before_opener, fed, flow_begins, last_leaves, line_begins, path_after, rests_from}
+use Rattle.markdown_blocks.specs.Fed.{tries_leaf}
 use Rattle.proof_rows.specs.Fronted.{rest_from}
 use Rattle.proof_rows.specs.WithoutMdx.{IsWithoutMdx}
 use Rattle.proof_frame.specs.Row.{Row}
 use Rattle.proof_rows.specs.Rows.{groups, groups_events}
 use Rattle.proof_rows.specs.Valid.{AreOpen, IsPlain, Represents, containers_of, still_of, reading}
+use Rattle.md_registry.specs.OpenSpan.{IsBuiltLeaf}
 use Rattle.md_registry.specs.States.{FlowStep, flow_table_scheme}
 use Rattle.proof_rows.specs.TextRows.{text_rows, text_setting}
-use Rattle.markdown_blocks.proofs.LineMet.{Meets, containers-met, run-on, still_after}
+use Rattle.markdown_blocks.proofs.ContainersTried.{further-tried, opener-rest, opener-tried}
+use Rattle.markdown_blocks.proofs.LeafTried.{HasMet, IsAskedAt, IsTriedAt, asked-leaf, flow-rest}
+use Rattle.markdown_blocks.proofs.LineMet.{Meets, OnLine, containers-met, leaf-tried, run-on, still_after, tries-flow}
+use Rattle.markdown_blocks.proofs.LineMet.{tries-none}
 use Rattle.markdown_blocks.proofs.LinesFed.{LineFed, leaf_after, line-fed, lines-fed, open_after, text-follows_it}
 use Rattle.markdown_blocks.proofs.LinesFed.{text-within}
 use Rattle.proof_rows.proofs.StepAfter.{containers-step, plain-step}
@@ -154,86 +164,162 @@ plain-steps options a [] built plain = plain
 plain-steps options a (r ∷ rs) built plain =
     plain-steps options (step options a r) rs built (plain-step options a r built plain)
 
--- where the state after the containers of a line is called
-lines-met : (bytes : List ℕ) (options : ParseOptions) (p : Point) → length bytes < 2 ^ 61 → IsWithoutMdx options →
-    p.index ≤ length bytes → p.vs ≡ 0 → 1 ≤ p.column → (t : State) (v : World) (t' : State) (v' : World)
-    (before : Runs FlowStep true line_begins (flow_begins bytes options p) t v)
-    (call : Calls FlowStep true t v t' v') → call.name ≡ s.Document document.ContainersAfter →
-    IsLineMet bytes options p (fed FlowStep true line_begins (flow_begins bytes options p) t v before) v
-lines-met bytes options p small built index whole column t v t' v' before call name =
-    go
-    (containers-met (text_setting bytes options p) (text_feed (text_setting bytes options p)) still t v
-    (run-on options bytes p small (text_feed (text_setting bytes options p)) (text-follows_it bytes options p small) t v
-    before)
-    named)
-  where
-    n : ℕ
-    n = fed FlowStep true line_begins (flow_begins bytes options p) t v before
+-- The leaf that is open after so many lines is held so.
+record IsStill (options : ParseOptions) (bytes : List ℕ) (p : Point) (n : ℕ) : Type 0 where
+  same : kind_of_leaf (spot (path_after options bytes p n)).leaf ≡ still_after options bytes p n
+  built : IsBuiltLeaf (spot (path_after options bytes p n)).leaf
 
-    still : HeldLeaf
-    still = still_after options bytes p n
-
-    lines : List (List ℕ)
-    lines = split_lines (drop p.index bytes)
-
-    rows : List Row
-    rows = text_rows options bytes p
-
-    path : Path
-    path = steps options (At (spot_of End)) (take n (rests_from p lines))
-
-    are : f.AreRows options bytes [] held_leaf.None p lines rows
-    are = fresh-rows options bytes p built small index whole column
-
-    same : still_of path ≡ still
-    same = (steps-left options bytes (At (spot_of End)) p n lines rows built tt are).1
-
-    named : plain t ≡ Next (s.Document document.ContainersAfter)
-    named = call.names ∙ ap (λ (m : StateName). Next m) name
-
-    Q : State → Type 0
-    Q m = valid flow_table_scheme v m
-
-    at : valid flow_table_scheme v (Next (s.Document document.ContainersAfter))
-    at = subst Q named (text-within bytes options p small t v before).at
-
-    kept : v.setting ≡ text_setting bytes options p
-    kept = runs-setting FlowStep true line_begins (flow_begins bytes options p) t v before
-
-    go : Meets v.flags still → IsLineMet bytes options p n v
-    go (inl leaf, blank) = record {
-      rest = at.0.0;
-      whole = ap (λ (x : Setting). x.limit) kept ∙ sym (ap (λ (x : Setting). length x.bytes) kept);
-      blank = blank;
-      all = not (nat_lt v.flags.continued (length v.flags.containers));
-      open_leaf = (spot path).leaf;
-      is = inl refl;
+is-still : (bytes : List ℕ) (options : ParseOptions) (p : Point) (n : ℕ) → length bytes < 2 ^ 61 →
+    IsWithoutMdx options → p.index ≤ length bytes → p.vs ≡ 0 → 1 ≤ p.column → IsStill options bytes p n
+is-still bytes options p n small built index whole column =
+    let lines : List (List ℕ) = split_lines (drop p.index bytes) in
+    let rows : List Row = text_rows options bytes p in
+    let are : f.AreRows options bytes [] held_leaf.None p lines rows = fresh-rows options bytes p built small index whole
+    column in
+    record {
+      same = (steps-left options bytes (At (spot_of End)) p n lines rows built tt are).1;
       built = plain-steps options (At (spot_of End)) (take n (rests_from p lines)) built tt;
-      holds = (leaf ∙ sym same, refl);
-    }
-    go (inr none, blank) = record {
-      rest = at.0.0;
-      whole = ap (λ (x : Setting). x.limit) kept ∙ sym (ap (λ (x : Setting). length x.bytes) kept);
-      blank = blank;
-      all = not (nat_lt v.flags.continued (length v.flags.containers));
-      open_leaf = NoLeaf;
-      is = inr refl;
-      built = tt;
-      holds = (none, refl);
     }
 
--- where the first state of a line of text is called
-texts-begin : (bytes : List ℕ) (options : ParseOptions) (p : Point) → length bytes < 2 ^ 61 → (t : State) (v : World)
-    (t' : State) (v' : World) → Runs FlowStep true line_begins (flow_begins bytes options p) t v →
-    (call : Calls FlowStep true t v t' v') → call.name ≡ s.Content content.ChunkStart →
-    IsRest v.scratch × (v.setting.limit ≡ length v.setting.bytes)
-texts-begin bytes options p small t v t' v' before call name =
-    let Q : State → Type 0 = λ m. valid flow_table_scheme v m in
-    let at : valid flow_table_scheme v (Next (s.Content content.ChunkStart)) =
-    subst Q (call.names ∙ ap (λ (m : StateName). Next m) name) (text-within bytes options p small t v before).at in
-    let kept : v.setting ≡ text_setting bytes options p =
-    runs-setting FlowStep true line_begins (flow_begins bytes options p) t v before in
-    (at.0, ap (λ (x : Setting). x.limit) kept ∙ sym (ap (λ (x : Setting). length x.bytes) kept))
+-- What is known of a call in a run over a text.
+module _ (bytes : List ℕ) (options : ParseOptions) (p : Point) (small : length bytes < 2 ^ 61) (t : State) (v : World)
+    (t' : State) (v' : World) (before : Runs FlowStep true line_begins (flow_begins bytes options p) t v)
+    (call : Calls FlowStep true t v t' v') where
+  abbrev count : ℕ
+  count = fed FlowStep true line_begins (flow_begins bytes options p) t v before
+
+  abbrev under : Setting
+  under = text_setting bytes options p
+
+  on-line : OnLine under (text_feed under) (still_after options bytes p count) t v
+  on-line = run-on options bytes p small (text_feed under) (text-follows_it bytes options p small) t v before
+
+  named : (name : StateName) → call.name ≡ name → plain t ≡ Next name
+  named name e = call.names ∙ ap (λ (m : StateName). Next m) e
+
+  valid-at : (name : StateName) → call.name ≡ name → valid flow_table_scheme v (Next name)
+  valid-at name e =
+      let Q : State → Type 0 = λ m. valid flow_table_scheme v m in
+      subst Q (named name e) (text-within bytes options p small t v before).at
+
+  kept : v.setting ≡ under
+  kept = runs-setting FlowStep true line_begins (flow_begins bytes options p) t v before
+
+  is-whole : v.setting.limit ≡ length v.setting.bytes
+  is-whole = ap (λ (x : Setting). x.limit) kept ∙ sym (ap (λ (x : Setting). length x.bytes) kept)
+
+  -- the tokenizer is at rest after it, where its scratch is as before
+  at-rest : IsRest v.scratch → v'.scratch ≡ v.scratch → IsAtRest v'
+  at-rest rest same = record {
+    rest = subst IsRest (sym same) rest;
+    whole = subst (λ (x : Setting). x.limit ≡ length x.bytes) (sym call.setting) is-whole;
+  }
+
+  -- where the state after the containers of a line is called
+  lines-met : IsWithoutMdx options → p.index ≤ length bytes → p.vs ≡ 0 → 1 ≤ p.column →
+      call.name ≡ s.Document document.ContainersAfter → IsLineMet bytes options p count v
+  lines-met built index whole column name =
+      go (containers-met under (text_feed under) (still_after options bytes p count) t v on-line (named _ name))
+    where
+      at : valid flow_table_scheme v (Next (s.Document document.ContainersAfter))
+      at = valid-at (s.Document document.ContainersAfter) name
+
+      is : IsStill options bytes p count
+      is = is-still bytes options p count small built index whole column
+
+      go : Meets v.flags (still_after options bytes p count) → IsLineMet bytes options p count v
+      go (inl leaf, blank) = record {
+        rest = at.0.0;
+        whole = is-whole;
+        blank = blank;
+        all = not (nat_lt v.flags.continued (length v.flags.containers));
+        open_leaf = (spot (path_after options bytes p count)).leaf;
+        is = inl refl;
+        built = is.built;
+        holds = (leaf ∙ sym is.same, refl);
+      }
+      go (inr none, blank) = record {
+        rest = at.0.0;
+        whole = is-whole;
+        blank = blank;
+        all = not (nat_lt v.flags.continued (length v.flags.containers));
+        open_leaf = NoLeaf;
+        is = inr refl;
+        built = tt;
+        holds = (none, refl);
+      }
+
+  -- where a leaf is tried
+  leaves-met : IsWithoutMdx options → p.index ≤ length bytes → p.vs ≡ 0 → 1 ≤ p.column →
+      tries_leaf call.name ≡ true → (l : LeafName) → t' ≡ Retry (first_state l) →
+      IsLeafMet bytes options p count l v'
+  leaves-met built index whole column tries l to = go tried.met tried.asked
+    where
+      tried : IsTriedAt l (seeing v) v' (still_after options bytes p count)
+      tried =
+          leaf-tried under (text_feed under) (still_after options bytes p count) t v t' v' on-line call
+          (tries-none call.name (looks v) tries) tries l to
+
+      ready : IsAtRest v'
+      ready =
+          at-rest (flow-rest call.name v (tries-flow call.name tries) (valid-at call.name refl)) tried.scratch
+
+      is : IsStill options bytes p count
+      is = is-still bytes options p count small built index whole column
+
+      by : (all : Bool) (open_leaf : Leaf) →
+          (open_leaf ≡ (spot (path_after options bytes p count)).leaf) ⊎ (open_leaf ≡ NoLeaf) → IsBuiltLeaf open_leaf →
+          v'.flags.leaf ≡ met_by all (kind_of_leaf open_leaf) → IsAskedAt (first_state l) v'.flags.leaf →
+          IsLeafMet bytes options p count l v'
+      by all open_leaf which may holds at = record {
+        ready = ready;
+        all = all;
+        open_leaf = open_leaf;
+        is = which;
+        built = may;
+        holds = holds;
+        asked = asked-leaf l all open_leaf (subst (IsAskedAt (first_state l)) holds at);
+      }
+
+      go : HasMet v'.flags.leaf (still_after options bytes p count) → IsAskedAt (first_state l) v'.flags.leaf →
+          IsLeafMet bytes options p count l v'
+      go (inl (all, met)) at =
+          by all (spot (path_after options bytes p count)).leaf (inl refl) is.built (met ∙ ap (met_by all) (sym is.same))
+          at
+      go (inr none) at = by true NoLeaf (inr refl) tt none at
+
+  -- where a container is tried
+  openers-met : (k : ContainerKind) → call.name ≡ before_opener k → t' ≡ Retry (opener_state k) → IsOpenerMet k v'
+  openers-met k name to =
+      let tried = opener-tried k t v t' v' call name to in
+      record {
+        ready = at-rest (opener-rest k v (valid-at (before_opener k) name)) tried.scratch;
+        asked = tried.asked;
+        column = tried.column;
+      }
+
+  -- and where an open one is asked
+  further-met : call.name ≡ s.Document document.ContainerExistingBefore → (c : Container) →
+      t' ≡ Retry (further_state c) → IsFurtherMet c v'
+  further-met name c to =
+      let tried = further-tried under (text_feed under) (still_after options bytes p count) t v t' v' on-line call name c
+      to in
+      let at : valid flow_table_scheme v (Next (s.Document document.ContainerExistingBefore)) = valid-at
+      (s.Document document.ContainerExistingBefore) name in
+      record {
+        ready = at-rest at.0.0 tried.scratch;
+        container = tried.container;
+        state = tried.state;
+        held = tried.held;
+        column = tried.column;
+      }
+
+  -- where the first state of a line of text is called
+  texts-begin : call.name ≡ s.Content content.ChunkStart → IsRest v.scratch × (v.setting.limit ≡ length v.setting.bytes)
+  texts-begin name =
+      let at : valid flow_table_scheme v (Next (s.Content content.ChunkStart)) = valid-at
+      (s.Content content.ChunkStart) name in
+      (at.0, is-whole)
 
 -- where all of it was read
 pub flow-ran : (bytes : List ℕ) (options : ParseOptions) (p : Point) (end : State) (at : World) →
@@ -247,9 +333,15 @@ flow-ran bytes options p end at small run ok none done = record {
       λ built index whole column t v t' v' before call feeds. valid-following bytes options p
       (suc (fed FlowStep true line_begins (flow_begins bytes options p) t v before)) v' built small index whole column
       (line-fed bytes options p small t v t' v' before call feeds);
-  texts_begin =
-      λ t v t' v' before call name. texts-begin bytes options p small t v t' v' before call name;
+  texts_begin = λ t v t' v' before call name. texts-begin bytes options p small t v t' v' before call name;
   lines_met =
-      λ built index whole column t v t' v' before call name. lines-met bytes options p small built index whole column t v
-      t' v' before call name;
+      λ built index whole column t v t' v' before call name. lines-met bytes options p small t v t' v' before call built
+      index whole column name;
+  leaves_met =
+      λ built index whole column t v t' v' before call tries l to. leaves-met bytes options p small t v t' v' before call
+      built index whole column tries l to;
+  openers_met =
+      λ t v t' v' before call k name to. openers-met bytes options p small t v t' v' before call k name to;
+  further_met =
+      λ t v t' v' before call name c to. further-met bytes options p small t v t' v' before call name c to;
 }

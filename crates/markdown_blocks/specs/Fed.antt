@@ -3,25 +3,30 @@
 use Rattle.std.specs.Prelude.{◌≡◌, ◌⊎◌, ℕ, suc, ◌+◌, ◌<◌, ◌≤◌, Bool, true, false, List, [], ◌∷◌, length, map, take, drop}
 use Rattle.md_engine.specs.declared.configuration.ParseOptions.{ParseOptions}
 use Rattle.md_engine.specs.declared.event.Point.{Point}
+use Rattle.md_engine.specs.declared.state.Name.{Name as StateName}
 use Rattle.md_engine.specs.declared.state.Name.TheVariants as s
 use Rattle.md_engine.specs.declared.state.content.State.TheVariants as content
 use Rattle.md_engine.specs.declared.state.document.State.TheVariants as document
 use Rattle.md_engine.specs.declared.state.State.{State}
-use Rattle.md_engine.specs.declared.state.State.TheVariants.{Next}
+use Rattle.md_engine.specs.declared.state.State.TheVariants.{Next, Retry}
+use Rattle.md_engine.specs.declared.tokenizer.container.name.ContainerKind.{ContainerKind}
+use Rattle.md_engine.specs.declared.tokenizer.container.name.ContainerKind.TheVariants as kind
 use Rattle.md_engine.specs.Run.{Calls, Runs, Step}
 use Rattle.md_engine.specs.Run.Runs.{Stays, ThenCalls, ThenLeaves}
-use Rattle.md_engine.specs.World.{World, fresh, looks, reads_to}
+use Rattle.md_engine.specs.World.{World, container_of, fresh, looks, reads_to}
 use Rattle.md_meaning.specs.Preamble.{rest_at}
 use Rattle.md_meaning.specs.Rest.{Rest}
 use Rattle.md_events.specs.Events.Spelled.{Reading, read, unread}
 use Rattle.md_events.specs.Spaces.{IsRest}
-use Rattle.md_flow.specs.LineRule.{IsOpen}
+use Rattle.md_flow.specs.LineRule.{IsAsked, IsHeldAs, IsOpen, first_state, further_state, opener_state}
 use Rattle.md_meaning.specs.State.{At, Container, Leaf, NoLeaf, Path, spot}
 use Rattle.md_meaning.specs.Step.{spot_of, steps}
 use Rattle.md_meaning.specs.Texts.{split_lines}
 use Rattle.md_meaning.specs.Tree.{End}
 use Rattle.proof_rows.specs.Fronted.{rest_from}
 use Rattle.proof_rows.specs.WithoutMdx.{IsWithoutMdx}
+use Rattle.proof_frame.specs.HeldLeaf.{kind_of_leaf, met_by}
+use Rattle.proof_frame.specs.LeafName.{LeafName}
 use Rattle.proof_frame.specs.Row.{Row, after_row}
 use Rattle.proof_rows.specs.Rows.{groups, groups_events, rows_events}
 use Rattle.proof_rows.specs.Valid.{Represents}
@@ -101,6 +106,51 @@ pub record IsLineMet (bytes : List ℕ) (options : ParseOptions) (p : Point) (n 
   pub built : IsBuiltLeaf open_leaf
   pub holds : IsOpen w all open_leaf
 
+-- Where attempts begin.
+
+-- the tokenizer is at rest, where the text may be read to its end
+pub record IsAtRest (w : World) : Type 0 where
+  pub rest : IsRest w.scratch
+  pub whole : w.setting.limit ≡ length w.setting.bytes
+
+-- the states that try a leaf
+abbrev pub tries_leaf : StateName → Bool
+tries_leaf (s.Flow state) = true
+tries_leaf (s.Document document.FlowInside) = true
+tries_leaf name = false
+
+-- Where a leaf is tried on a line, before which so many were fed, what its first state requires is met: the line meets
+-- the leaf that was open before it, or none where a container has opened on it, and this leaf may be asked there.
+pub record IsLeafMet (bytes : List ℕ) (options : ParseOptions) (p : Point) (n : ℕ) (l : LeafName) (w : World) : Type 0
+  where
+    pub ready : IsAtRest w
+    pub all : Bool
+    pub open_leaf : Leaf
+    pub is : (open_leaf ≡ (spot (path_after options bytes p n)).leaf) ⊎ (open_leaf ≡ NoLeaf)
+    pub built : IsBuiltLeaf open_leaf
+    pub holds : w.flags.leaf ≡ met_by all (kind_of_leaf open_leaf)
+    pub asked : IsAsked l all open_leaf
+
+-- the state before a container that may open
+abbrev pub before_opener : ContainerKind → StateName
+before_opener kind.BlockQuote = s.Document document.ContainerNewBefore
+before_opener kind.ListItem = s.Document document.ContainerNewBeforeNotBlockQuote
+before_opener kind.GfmFootnoteDefinition = s.Document document.ContainerNewBeforeNotList
+
+-- what the first state of one requires
+pub record IsOpenerMet (k : ContainerKind) (w : World) : Type 0 where
+  pub ready : IsAtRest w
+  pub asked : w.flags.asked ≡ container_of k
+  pub column : w.flags.asked_column ≡ w.point.column
+
+-- what the state before a further prefix requires, where it is that of such a container
+pub record IsFurtherMet (c : Container) (w : World) : Type 0 where
+  pub ready : IsAtRest w
+  pub container : Container
+  pub state : further_state container ≡ further_state c
+  pub held : IsHeldAs container w.flags.asked
+  pub column : w.flags.asked_column ≡ w.point.column
+
 -- Flow has read a text, from a point on, and has become this.
 pub record FlowRan (bytes : List ℕ) (options : ParseOptions) (p : Point) (end : State) (at : World) : Type 0 where
   pub run : Runs FlowStep true line_begins (flow_begins bytes options p) end at
@@ -125,3 +175,19 @@ pub record FlowRan (bytes : List ℕ) (options : ParseOptions) (p : Point) (end 
       (before : Runs FlowStep true line_begins (flow_begins bytes options p) t v)
       (call : Calls FlowStep true t v t' v') → call.name ≡ s.Document document.ContainersAfter →
       IsLineMet bytes options p (fed FlowStep true line_begins (flow_begins bytes options p) t v before) v
+  -- where flow tries a leaf, what the first state of the leaf requires is met,
+  pub leaves_met : IsWithoutMdx options → p.index ≤ length bytes → p.vs ≡ 0 → 1 ≤ p.column →
+      (t : State) (v : World) (t' : State) (v' : World)
+      (before : Runs FlowStep true line_begins (flow_begins bytes options p) t v)
+      (call : Calls FlowStep true t v t' v') → tries_leaf call.name ≡ true → (l : LeafName) →
+      t' ≡ Retry (first_state l) →
+      IsLeafMet bytes options p (fed FlowStep true line_begins (flow_begins bytes options p) t v before) l v'
+  -- where a container is tried, what its first state requires is,
+  pub openers_met : (t : State) (v : World) (t' : State) (v' : World) →
+      Runs FlowStep true line_begins (flow_begins bytes options p) t v → (call : Calls FlowStep true t v t' v') →
+      (k : ContainerKind) → call.name ≡ before_opener k → t' ≡ Retry (opener_state k) → IsOpenerMet k v'
+  -- and where an open one is asked, what the state before its further prefix requires
+  pub further_met : (t : State) (v : World) (t' : State) (v' : World) →
+      Runs FlowStep true line_begins (flow_begins bytes options p) t v → (call : Calls FlowStep true t v t' v') →
+      call.name ≡ s.Document document.ContainerExistingBefore → (c : Container) → t' ≡ Retry (further_state c) →
+      IsFurtherMet c v'

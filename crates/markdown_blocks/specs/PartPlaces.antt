@@ -1,21 +1,32 @@
--- Where each text part of a document is, in the order of the text.
-use Rattle.std.specs.Prelude.{ℕ, zero, suc, ◌<◌, Bool, false, ◌&&◌, not, if◌then◌else◌, List, [], ◌∷◌, ◌++◌, length}
-use Rattle.std.specs.Prelude.{get_or, Option, Some}
+-- Where each text part of a document is, in the order of the text; and where one of them is.
+use Rattle.std.specs.Prelude.{◌≡◌, ℕ, zero, suc, ◌<◌, Bool, false, ◌&&◌, not, if◌then◌else◌, List, [], ◌∷◌, ◌++◌}
+use Rattle.std.specs.Prelude.{length, get_or, Option, Some, None}
 use Rattle.md_engine.specs.declared.event.Event.{Event}
+use Rattle.md_events.specs.declared.inline.Chunk.{Chunk}
 use Rattle.md_events.specs.declared.inline.PartPlace.{PartPlace}
 use Rattle.md_events.specs.Events.Inline.{Part, is_linked, is_none, pieces}
 use Rattle.md_events.specs.Events.Nested.{is_exit}
-use Rattle.md_events.specs.Events.Tiles.{chunks, inside_part, is_part}
-use Rattle.md_events.specs.TextPart.{Document, IsTextPartAt, is_of_block, place_by}
+use Rattle.md_events.specs.Events.Tiles.{chunks, inside_part, is_part, part_at, part_kind}
+use Rattle.md_events.specs.Substituted.{chunk_of}
+use Rattle.md_events.specs.TextPart.{Document, IsTextPartAt, is_of_block, place_by, place_of}
 
 -- whether a chunk begins with an event inside of a text part, by the events after it
 abbrev pub begins_chunk : Event → List Event → Bool
 begins_chunk e [] = false
 begins_chunk e (f ∷ es) = not (is_exit e.kind) && is_linked e && is_exit f.kind && not (is_part f.name)
 
--- whether a text part has a chunk, by the events after the one with which it begins
+-- the chunk that begins with such an event, if one does
+abbrev pub chunk_at : Event → List Event → Option Chunk
+chunk_at e [] = None
+chunk_at e (f ∷ es) = if begins_chunk e (f ∷ es) then Some (chunk_of e f) else None
+
+-- the chunks of a text part, by the events after the one with which it begins
+abbrev pub chunks_in : List Event → List Chunk
+chunks_in es = chunks (pieces (inside_part es))
+
+-- whether it has one
 abbrev pub holds_chunk : List Event → Bool
-holds_chunk es = not (is_none (chunks (pieces (inside_part es))))
+holds_chunk es = not (is_none (chunks_in es))
 
 -- whether a text part that has a chunk begins with an event: a layer reads no other
 abbrev pub begins_part : Event → List Event → Bool
@@ -43,3 +54,12 @@ pub record IsNext (document : Document) (places : List PartPlace) (taken : ℕ) 
 abbrev pub taken_after : ℕ → ℕ → ℕ
 taken_after zero taken = suc taken
 taken_after (suc more) taken = taken
+
+-- A text part begins with one of some events, and is at this place.
+pub record IsPartAt (blocks : List Event) (part : Part) (place : PartPlace) : Type 0 where
+  pub before : List Event
+  pub begin : Event
+  pub following : List Event
+  pub among : blocks ≡ before ++ begin ∷ following
+  pub begins : part_at begin.kind (part_kind begin.name) following ≡ part ∷ []
+  pub place_is : place ≡ place_of before begin

@@ -7,6 +7,7 @@ pub mod label;
 pub mod parser;
 mod part_places;
 mod parts;
+mod place;
 pub mod plain;
 pub mod seam;
 mod text_parts;

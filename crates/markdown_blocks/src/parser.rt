@@ -23,6 +23,7 @@ ghost use Rattle.markdown_blocks.specs.Parsed.{IsParsed, IsRead, IsWithoutMdx};
 ghost use Rattle.md_meaning.specs.Wrapped.{IsSmall};
 
 pub use crate::parts::{Part, Parts};
+pub use crate::place::place_of;
 use crate::plain::Plain;
 use crate::text_parts::read_text_parts;
 use md_at_once::table::FlowTable;
@@ -367,7 +368,7 @@ pub(crate) fn resolve_blocks(
 /// anything.
 ///
 /// An `Err` says that memory ran out.
-fn read_flow<'a>(
+pub(crate) fn read_flow<'a>(
     alloc: Global,
     bytes: &'a [u8],
     options: &'a ParseOptions,

@@ -24,7 +24,7 @@ fn is_new_item(last: Option<Event>) -> bool
 }
 
 /// Where a text part of this name is, by the last event of a block before it.
-fn place_by(last: Option<Event>, name: Name) -> PartPlace
+pub(crate) fn place_by(last: Option<Event>, name: Name) -> PartPlace
     ensures { result ≡ place_by last name }
 {
     match name {
@@ -35,7 +35,7 @@ fn place_by(last: Option<Event>, name: Name) -> PartPlace
 }
 
 /// Whether a chunk begins with an event inside of a text part, by the events after it.
-fn begins_chunk(event: &Event, following: &[Event]) -> bool
+pub(crate) fn begins_chunk(event: &Event, following: &[Event]) -> bool
     ensures { result ≡ begins_chunk event.now following.now }
 {
     match following {
@@ -50,7 +50,7 @@ fn begins_chunk(event: &Event, following: &[Event]) -> bool
 }
 
 /// Whether a text part ends with an event.
-fn ends_part(event: &Event) -> bool
+pub(crate) fn ends_part(event: &Event) -> bool
     ensures { result ≡ is_part event.now.name && is_exit event.now.kind }
 {
     is_text_part(event.name) && matches!(event.kind, Kind::Exit)
@@ -81,7 +81,7 @@ fn begins_part(event: &Event, following: &[Event]) -> bool
 }
 
 /// The last event of a block, an event later.
-fn last_after(last: Option<Event>, event: &Event) -> Option<Event>
+pub(crate) fn last_after(last: Option<Event>, event: &Event) -> Option<Event>
     ensures { result ≡ last_after last event.now }
 {
     if is_block(event.name) {

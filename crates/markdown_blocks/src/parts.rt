@@ -52,7 +52,7 @@ use std::alloc::Global;
 use std::mem;
 
 /// How many bytes a part has at least, if the text has as many.
-const LEAST: usize = 32 * 1024;
+const LEAST: usize = 1024 * 1024;
 
 /// Some whole blocks of a text, or its front: its byte order mark and its frontmatter.
 #[derive(Drop)]
@@ -370,7 +370,7 @@ fn point_in(text: &[u8], point: Point) -> Option<Point>
 impl<'a> Parts<'a> {
     ghost use Rattle.markdown_blocks.specs.PartsLeft.{left_in};
 
-    /// A text that is read in parts of 32 KB, or larger where a block is.
+    /// A text that is read in parts of 1 MiB, or larger where a block is.
     ///
     /// The text has at most `MAX_LEN` bytes, and the constructs of MDX are off. A byte order mark before the text is
     /// taken as such. Nothing is read yet, and no memory is taken.

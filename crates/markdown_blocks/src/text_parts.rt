@@ -85,7 +85,10 @@ impl<I: Inline> Reader for TextReader<'_, '_, I> {
 }
 
 /// The events of a text: those of its front, and after them all others.
-fn after_front(mut front: Vec<Event>, mut body: Vec<Event>) -> Result<Vec<Event>, Message>
+pub(crate) fn after_front(
+    mut front: Vec<Event>,
+    mut body: Vec<Event>,
+) -> Result<Vec<Event>, Message>
     ensures { IfOk result (λ events. events.items ≡ front.items ++ body.items) }
 {
     if front.is_empty() {

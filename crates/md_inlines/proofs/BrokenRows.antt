@@ -5,7 +5,7 @@ use Rattle.md_inline_events.specs.Forest.{Forest}
 use Rattle.md_inlines.proofs.Computing.{grammars}
 use Rattle.md_inlines.specs.declared.TheConstants.InlineConstructs.{COMMONMARK}
 use Rattle.md_inlines.specs.Content.{forest}
-use Rattle.md_inlines.proofs.Shapes.{end, escaped, image_of, leads, link_of, raw_html, text, titled}
+use Rattle.md_inlines.proofs.Shapes.{end, escaped, image_of, leads, link_of, raw_html, text, titled, trailing}
 
 abbrev none : List ℕ → Bool
 none label = false
@@ -68,7 +68,8 @@ row_title_parenthesis : markdown (codes "[a](b (c(d))") ≡ text 12 end
 unfolding grammars
 row_title_parenthesis = refl
 
-row_lines_between : markdown (codes "[a](b" ++ 10 ∷ 10 ∷ codes "'c')") ≡ text 11 end
+row_lines_between : markdown (codes "[a](b" ++ 10 ∷ 32 ∷ 10 ∷ codes "'c')") ≡
+    text 6 (trailing 1 (text 5 end))
 unfolding grammars
 row_lines_between = refl
 

@@ -162,7 +162,7 @@ found-is kind.ListItem options interrupting r = refl
 found-is kind.GfmFootnoteDefinition options interrupting r = refl
 
 -- What is left at the first state of one.
-opener-left : (k : ContainerKind) (options : ParseOptions) (text : List ℕ) (line : TextLine) (r : Rest)
+pub opener-left : (k : ContainerKind) (options : ParseOptions) (text : List ℕ) (line : TextLine) (r : Rest)
     (cells stop : List Cell) (h : Here) →
     IsRest h.scratch → h.flags.asked ≡ container_of k → h.flags.asked_column ≡ h.point.column →
     IsNext text line r h.point cells stop →
@@ -202,7 +202,7 @@ opener-left k options text line r cells stop h rest asked column is =
         ((container-laws k).held_new options i all p passed e)
 
 -- What is left before the prefix on a further line.
-further-left : (k : ContainerKind) (c : Container) (options : ParseOptions) (text : List ℕ) (line : TextLine) (r : Rest)
+pub further-left : (k : ContainerKind) (c : Container) (options : ParseOptions) (text : List ℕ) (line : TextLine) (r : Rest)
     (cells stop : List Cell) (h : Here) →
     IsOf k c → (container_rules k).holds h.flags.asked c →
     IsRest h.scratch → h.flags.asked_column ≡ h.point.column → IsNext text line r h.point cells stop →
