@@ -88,7 +88,7 @@ ToRead options at old text here spans rest =
     (final : List Span) → Shows here spans (string_parts options rest) final →
     Shows at old (string_parts options text) final
 
-parts-found : (options : InlineOptions) (b : ℕ) (text : List ℕ) (found : Forest) →
+pub parts-found : (options : InlineOptions) (b : ℕ) (text : List ℕ) (found : Forest) →
     string_atom options (b ∷ text) ≡ Some found →
     string_parts options (b ∷ text) ≡ beside found (string_parts options (drop (size found) (b ∷ text)))
 parts-found options b text found h =
@@ -101,7 +101,7 @@ parts-found options b text found h =
     (string-alike options (length text) (length (drop (size found) (b ∷ text))) (drop (size found) (b ∷ text))
     (omega (arith, front.some, length-drop (size found) (b ∷ text))) (omega arith))
 
-parts-plain : (options : InlineOptions) (b : ℕ) (text : List ℕ) → string_atom options (b ∷ text) ≡ None →
+pub parts-plain : (options : InlineOptions) (b : ℕ) (text : List ℕ) → string_atom options (b ∷ text) ≡ None →
     string_parts options (b ∷ text) ≡ byte n.Data (string_parts options text)
 parts-plain options b text h =
     let made : string_parts options (b ∷ text) ≡ byte n.Data (string_at_most options (length text) text) =

@@ -79,8 +79,8 @@ read-shows source reading matched h done m =
     (level_forest source) [] matched
     (ap (emphasis source.options.now.gfm_strikethrough_single_tilde)
     (sym
-    (left-end source.options.now (has_form (map string_bytes source.labels.definitions.now))
-    (has_form (map string_bytes source.labels.footnotes.now)) source.text.now h.state end)
+    (left-end source.options.now (has_form (map string_bytes source.labels.now.definitions.forms.now))
+    (has_form (map string_bytes source.labels.now.footnotes.forms.now)) source.text.now h.state end)
     ∙ h.same))
     (m source.start [] reading.spans.items (unwound h.state.frames h.state.items) refl
     (unwound-filled source.start h.state.frames h.state.items (reverse reading.brackets.items) reading.spans.items

@@ -321,7 +321,7 @@ joined-size name more (piece other count following) = go (is_data name && is_dat
         )
     go false = refl
 
-merged-size : (forest : Forest) → size (merged forest) ≡ size forest
+pub merged-size : (forest : Forest) → size (merged forest) ≡ size forest
 merged-size nothing = refl
 merged-size (piece name more following) =
     omega (

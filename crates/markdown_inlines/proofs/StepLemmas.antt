@@ -55,10 +55,10 @@ made_bracket at len place runs links =
     record { at = at; len = len; place = place; runs = runs; links = links }
 
 abbrev definitions : Source → List ℕ → Bool
-definitions source = has_form (map string_bytes source.labels.definitions.now)
+definitions source = has_form (map string_bytes source.labels.now.definitions.forms.now)
 
 abbrev footnotes : Source → List ℕ → Bool
-footnotes source = has_form (map string_bytes source.labels.footnotes.now)
+footnotes source = has_form (map string_bytes source.labels.now.footnotes.forms.now)
 
 module _ (source : Source) (old new : Reading) (h : Reads source old) (empty : Bool) (before rest : List ℕ) (b : ℕ)
     (following : List ℕ) (empty_is : empty ≡ (length old.brackets.items == 0))

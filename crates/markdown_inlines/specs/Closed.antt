@@ -1,5 +1,5 @@
 -- What the steps of a reader do to its lists.
-use Rattle.std.specs.Prelude.{◌≡◌, ◌<◌, ℕ, ◌+◌, ◌-◌, Bool, true, false, if◌then◌else◌, List, [], ◌∷◌, ◌++◌, length, map}
+use Rattle.std.specs.Prelude.{◌≡◌, ◌<◌, ℕ, ◌+◌, ◌-◌, Bool, true, false, List, [], ◌∷◌, ◌++◌, length, map}
 use Rattle.std.specs.Prelude.{Option, string_bytes}
 use Rattle.md_engine.specs.declared.event.Name.TheVariants as n
 use Rattle.md_inline_events.specs.Forest.{Forest, size}
@@ -7,7 +7,6 @@ use Rattle.md_inlines.specs.Brackets as inlines
 use Rattle.md_inlines.specs.Content.{has_form}
 use Rattle.md_inlines.specs.Emphasis.{Item, emphasis}
 use Rattle.md_inlines.specs.Targets.{call, image, link}
-use Rattle.md_inlines.specs.Task.{is_checked}
 use Rattle.md_inlines.specs.declared.InlineOptions.{InlineOptions}
 use Rattle.md_inlines.specs.declared.Run.{Run}
 use Rattle.markdown_inlines.specs.Filled.{placed, room}
@@ -137,12 +136,5 @@ end_spans close = span_of n.LabelEnd close (close + 1) ∷ span_of n.LabelMarker
 abbrev pub level_forest : Source → Forest
 level_forest source =
     emphasis source.options.now.gfm_strikethrough_single_tilde
-    (level_at source.options.now (has_form (map string_bytes source.labels.definitions.now))
-    (has_form (map string_bytes source.labels.footnotes.now)) source.text.now false source.start).items
-
--- the spans of the check of a task item
-abbrev pub check_spans : ℕ → List Span
-check_spans b =
-    span_of n.GfmTaskListItemCheck 0 3 ∷ span_of n.GfmTaskListItemMarker 0 1
-    ∷ span_of (if is_checked b then n.GfmTaskListItemValueChecked else n.GfmTaskListItemValueUnchecked) 1 2
-    ∷ span_of n.GfmTaskListItemMarker 2 3 ∷ []
+    (level_at source.options.now (has_form (map string_bytes source.labels.now.definitions.forms.now))
+    (has_form (map string_bytes source.labels.now.footnotes.forms.now)) source.text.now false source.start).items

@@ -1,16 +1,10 @@
 -- The labels that a reader is given.
-use Rattle.std.specs.Prelude.{ℕ, Bool, List, map, string_bytes}
-use Rattle.std.specs.List.{list_any}
-use Rattle.std.specs.Str.{bytes_eq}
+use Rattle.std.specs.Prelude.{map, string_bytes}
+use Rattle.md_events.specs.declared.labels.Labels.{Labels as Given}
 use Rattle.md_meaning.specs.Label.{Labels}
-use Rattle.markdown_inlines.specs.declared.labels.Defined.{Defined}
 
-abbrev pub labels_of : Defined → Labels
+abbrev pub labels_of : Given → Labels
 labels_of labels = record {
-  definitions = map string_bytes labels.definitions.now;
-  footnotes = map string_bytes labels.footnotes.now;
+  definitions = map string_bytes labels.definitions.forms.now;
+  footnotes = map string_bytes labels.footnotes.forms.now;
 }
-
--- whether a normal form is listed
-abbrev pub is_listed : List (List ℕ) → List ℕ → Bool
-is_listed forms form = list_any (λ known. bytes_eq known form) forms

@@ -2,9 +2,17 @@ pub mod Spans
 pub mod Filled
 pub mod Matching
 pub mod Found
+pub mod Readable
+pub mod Tokens
 pub mod Reading
 pub mod Opened
 pub mod Given
+pub mod Own
+pub mod Plain
+pub mod Ends
 pub mod Leading
 pub mod Closed
 pub mod Reads
+pub mod Addressed
+pub mod Added
+pub mod Layer

@@ -16,8 +16,8 @@ Lens (frame ∷ frames) = (0 < frame.len) × (frame.len ≤ 2) × Lens frames
 
 abbrev pub left_of : Source → State → List Item
 left_of source s =
-    left source.options.now (has_form (map string_bytes source.labels.definitions.now))
-    (has_form (map string_bytes source.labels.footnotes.now)) source.text.now s
+    left source.options.now (has_form (map string_bytes source.labels.now.definitions.forms.now))
+    (has_form (map string_bytes source.labels.now.footnotes.forms.now)) source.text.now s
 
 pub record Reads (source : Source) (reading : Reading) : Type 0 where
   pub state : State
@@ -28,12 +28,17 @@ pub record Reads (source : Source) (reading : Reading) : Type 0 where
   pub at : state.at ≡ reading.at
   pub links : state.links ≡ reading.links
   pub same : left_of source state ≡
-      (level_at source.options.now (has_form (map string_bytes source.labels.definitions.now))
-      (has_form (map string_bytes source.labels.footnotes.now)) source.text.now false source.start).items
+      (level_at source.options.now (has_form (map string_bytes source.labels.now.definitions.forms.now))
+      (has_form (map string_bytes source.labels.now.footnotes.forms.now)) source.text.now false source.start).items
 
 -- a step reads more
 pub record Goes (source : Source) (old new : Reading) : Type 0 where
   pub further : old.at < new.at
+  pub reads : Reads source new
+
+-- text is read, or nothing
+pub record Passes (source : Source) (old new : Reading) : Type 0 where
+  pub further : old.at ≤ new.at
   pub reads : Reads source new
 
 -- A `]` is at the place that is read, and this bracket was the innermost.

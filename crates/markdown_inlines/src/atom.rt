@@ -1,11 +1,15 @@
 // What binds tightest at the front of a text (CommonMark 2.4, 2.5, 6.1, 6.5, 6.6, 6.7, 6.8, GFM 6.9), and its spans.
 
-ghost use Rattle.std.specs.Prelude.{◌≡◌, ◌+◌, ◌++◌, IfOk, OnOk};
+ghost use Rattle.std.specs.Prelude.{◌≡◌, ◌+◌, ◌++◌, true, None, IfOk, OnOk, drop, option_copied};
 ghost use Rattle.md_inlines.specs.Atoms as inlines;
 ghost use Rattle.md_inlines.specs.Targets as targets;
+ghost use Rattle.md_inlines.specs.Code as code;
+ghost use Rattle.md_inlines.specs.RawHtml as html;
+ghost use Rattle.markdown_inlines.specs.Ends.{IsAbsent};
 ghost use Rattle.markdown_inlines.specs.Found as spec;
 ghost use Rattle.markdown_inlines.specs.Found.{found};
 
+use crate::ends::Absent;
 use crate::span::{Span, past, push_spans};
 use md_engine::event::Name;
 use md_engine::message::Message;
@@ -68,11 +72,22 @@ fn character_reference_at(text: &[u8]) -> Option<Atom>
     }
 }
 
-fn code_at(text: &[u8]) -> Option<Atom>
+/// The run of this byte that comes first, and what is between it and the next of its size, which may be known to be
+/// absent.
+fn raw_unless(absent: bool, mark: u8, text: &[u8]) -> Option<Raw>
+    requires { absent ≡ true → code.raw_at mark text.now ≡ None }
+    ensures { result ≡ code.raw_at mark text.now }
+{
+    if absent { None } else { raw_at(mark, text) }
+}
+
+/// `absent` says that it is known that no run closes the first.
+fn code_at(absent: bool, text: &[u8]) -> Option<Atom>
+    requires { absent ≡ true → code.raw_at 96 text.now ≡ None }
     ensures { found result ≡ inlines.code_at text.now }
 {
     match text {
-        [b'`', ..] => match raw_at(b'`', text) {
+        [b'`', ..] => match raw_unless(absent, b'`', text) {
             Some(raw) => Some(Atom::Code(raw)),
             None => Some(Atom::Text(run_len(b'`', text))),
         },
@@ -80,8 +95,9 @@ fn code_at(text: &[u8]) -> Option<Atom>
     }
 }
 
-/// `single` says whether one dollar is a mark.
-fn math_at(single: bool, text: &[u8]) -> Option<Atom>
+/// `single` says whether one dollar is a mark, and `absent` that it is known that no run closes the first.
+fn math_at(absent: bool, single: bool, text: &[u8]) -> Option<Atom>
+    requires { absent ≡ true → code.raw_at 36 text.now ≡ None }
     ensures { found result ≡ inlines.math_at single text.now }
 {
     match text {
@@ -90,7 +106,7 @@ fn math_at(single: bool, text: &[u8]) -> Option<Atom>
             if !single && len == 1 {
                 return Some(Atom::Text(1));
             }
-            match raw_at(b'$', text) {
+            match raw_unless(absent, b'$', text) {
                 Some(raw) => Some(Atom::Math(raw)),
                 None => Some(Atom::Text(len)),
             }
@@ -114,11 +130,21 @@ fn autolink_at(text: &[u8]) -> Option<Atom>
     }
 }
 
-fn html_at(text: &[u8]) -> Option<Atom>
+/// What follows the HTML whose `<` is before this text, which may be known to have no end.
+fn after_unless(absent: bool, text: &[u8]) -> Option<&[u8]>
+    requires { absent ≡ true → html.after_html text.now ≡ None }
+    ensures { option_copied result ≡ html.after_html text.now }
+{
+    if absent { None } else { after_html(text) }
+}
+
+/// `absent` says that it is known that the HTML has no end.
+fn html_at(absent: bool, text: &[u8]) -> Option<Atom>
+    requires { absent ≡ true → html.after_html (drop 1 text.now) ≡ None }
     ensures { found result ≡ inlines.html_at text.now }
 {
     match text {
-        [b'<', rest @ ..] => match after_html(rest) {
+        [b'<', rest @ ..] => match after_unless(absent, rest) {
             Some(after) => Some(Atom::Html(text.len().saturating_sub(after.len()))),
             None => None,
         },
@@ -162,6 +188,20 @@ fn address_at(before: &[u8], text: &[u8]) -> Option<Atom>
 pub fn atom_at(options: &InlineOptions, outside: bool, before: &[u8], text: &[u8]) -> Option<Atom>
     ensures { found result ≡ inlines.atom options.now outside before.now text.now }
 {
+    atom_unless(options, outside, Absent::NOTHING, before, text)
+}
+
+/// The atom at the front of a text, after another, where some searches are known to fail.
+pub(crate) fn atom_unless(
+    options: &InlineOptions,
+    outside: bool,
+    absent: Absent,
+    before: &[u8],
+    text: &[u8],
+) -> Option<Atom>
+    requires { IsAbsent absent text.now }
+    ensures { found result ≡ inlines.atom options.now outside before.now text.now }
+{
     let on = options.constructs;
     if let Some(atom) = when(on.character_escape, escape_at(text)) {
         return Some(atom);
@@ -172,16 +212,17 @@ pub fn atom_at(options: &InlineOptions, outside: bool, before: &[u8], text: &[u8
     if let Some(atom) = when(on.character_reference, character_reference_at(text)) {
         return Some(atom);
     }
-    if let Some(atom) = when(on.code_text, code_at(text)) {
+    if let Some(atom) = when(on.code_text, code_at(absent.code, text)) {
         return Some(atom);
     }
-    if let Some(atom) = when(on.math_text, math_at(options.math_text_single_dollar, text)) {
+    let single = options.math_text_single_dollar;
+    if let Some(atom) = when(on.math_text, math_at(absent.math, single, text)) {
         return Some(atom);
     }
     if let Some(atom) = when(on.autolink, autolink_at(text)) {
         return Some(atom);
     }
-    if let Some(atom) = when(on.html_text, html_at(text)) {
+    if let Some(atom) = when(on.html_text, html_at(absent.html, text)) {
         return Some(atom);
     }
     if let Some(atom) = trailing_at(on.hard_break_trailing, text) {
@@ -202,7 +243,7 @@ pub(crate) fn string_atom(options: &InlineOptions, text: &[u8]) -> Option<Atom>
 }
 
 /// The name of an address.
-fn literal_name(kind: LiteralKind) -> Name
+pub(crate) fn literal_name(kind: LiteralKind) -> Name
     ensures { result ≡ inlines.literal_name kind }
 {
     match kind {

@@ -10,20 +10,24 @@ ghost use Rattle.md_inlines.specs.Content as content;
 ghost use Rattle.md_inlines.specs.Emphasis as emphasis;
 ghost use Rattle.md_inlines.specs.Emphasis.{Item};
 ghost use Rattle.markdown_inlines.specs.Closed as closed;
+ghost use Rattle.markdown_inlines.specs.Ends.{AreEnds, IsAbsent};
 ghost use Rattle.markdown_inlines.specs.Filled.{Filled, Placed, Shows};
 ghost use Rattle.markdown_inlines.specs.Opened.{bracket_room};
 ghost use Rattle.markdown_inlines.specs.Reading as spec;
-ghost use Rattle.markdown_inlines.specs.Reads.{ClosedAs, Closing, Goes, Reads};
+ghost use Rattle.markdown_inlines.specs.Reads.{ClosedAs, Closing, Goes, Passes, Reads};
 ghost use Rattle.markdown_inlines.specs.Spans.{holes, span_of, write};
 
-use crate::atom::{Atom, atom_at, push_atom};
+use crate::atom::{Atom, atom_unless, push_atom};
 use crate::attention::{PlacedRun, match_runs, push_run};
-use crate::labels::{Defined, is_call};
+use crate::ends::{Absent, Ends, absent_at, ends_of};
+use crate::labels::is_call;
+use crate::plain::text_len;
 use crate::slices::{after, front};
 use crate::span::{Span, past, push_places, push_spans};
 use crate::target::{Target, push_target, target_of};
 use md_engine::event::Name;
 use md_engine::message::Message;
+use md_events::labels::Labels as Known;
 use md_inlines::flanking::run_at;
 use md_inlines::{InlineOptions, Run};
 use md_scan::ahead::begins_with;
@@ -71,9 +75,9 @@ pub(crate) struct Bracket {
 
 /// A text to be read from a place on, and what for.
 #[derive(Clone, Copy)]
-pub(crate) struct Source<'a> {
+pub(crate) struct Source<'a, 'b> {
     pub(crate) options: &'a InlineOptions,
-    pub(crate) labels: Defined<'a>,
+    pub(crate) labels: &'a Known<'b>,
     pub(crate) text: &'a [u8],
     pub(crate) start: usize,
 }
@@ -164,10 +168,19 @@ fn opening_at(options: &InlineOptions, text: &[u8]) -> Opening
 }
 
 /// What is at the front of a text that begins with this byte, after another; `inside` says that a bracket is open.
-fn front_at(options: &InlineOptions, inside: bool, before: &[u8], byte: u8, text: &[u8]) -> Front
+/// Some searches are known to fail there.
+fn front_at(
+    options: &InlineOptions,
+    inside: bool,
+    absent: Absent,
+    before: &[u8],
+    byte: u8,
+    text: &[u8],
+) -> Front
+    requires { IsAbsent absent text.now }
     ensures { spec.front_of result ≡ spec.front_at options.now inside before.now byte text.now }
 {
-    if let Some(found) = atom_at(options, !inside, before, text) {
+    if let Some(found) = atom_unless(options, !inside, absent, before, text) {
         return Front::Found(found);
     }
     if is_mark(options, byte) {
@@ -242,7 +255,7 @@ fn open_bracket(reading: &mut Reading, len: usize) -> Result<(), Message>
 /// An `Err` says that memory ran out.
 fn pair_of(
     alloc: Global,
-    source: Source<'_>,
+    source: Source<'_, '_>,
     len: usize,
     links: bool,
     inside: &[u8],
@@ -252,25 +265,25 @@ fn pair_of(
     ensures value { (items : List Item) → IfOk result (λ made.
         option_map (closed.pair_made source.entry.options.now items inside.now following.now) made ≡
         closed.pair_at source.entry.options.now
-        (content.has_form (map string_bytes source.entry.labels.definitions.now))
-        (content.has_form (map string_bytes source.entry.labels.footnotes.now)) len items links inside.now
+        (content.has_form (map string_bytes source.entry.labels.now.definitions.forms.now))
+        (content.has_form (map string_bytes source.entry.labels.now.footnotes.forms.now)) len items links inside.now
         following.now) }
 {
     let on = source.options.constructs;
     let labels = source.labels;
     if len == 2 {
-        return match target_of(alloc, labels.definitions, inside, following)? {
+        return match target_of(alloc, labels, inside, following)? {
             Some(target) => Ok(Some(Pair::Leading(false, target))),
             None => Ok(None),
         };
     }
-    if on.gfm_footnote_call && is_call(alloc, labels.footnotes, inside)? {
+    if on.gfm_footnote_call && is_call(alloc, labels, inside)? {
         return Ok(Some(Pair::Call));
     }
     if links || !on.label_start_link {
         return Ok(None);
     }
-    match target_of(alloc, labels.definitions, inside, following)? {
+    match target_of(alloc, labels, inside, following)? {
         Some(target) => Ok(Some(Pair::Leading(true, target))),
         None => Ok(None),
     }
@@ -396,7 +409,7 @@ fn end_call(start: usize, reading: &mut Reading, bracket: Bracket) -> Result<(),
 ///
 /// An `Err` says that memory ran out.
 fn end_leading(
-    source: Source<'_>,
+    source: Source<'_, '_>,
     reading: &mut Reading,
     bracket: Bracket,
     is_link: bool,
@@ -436,7 +449,7 @@ fn end_leading(
 ///
 /// An `Err` says that memory ran out.
 fn end_pair(
-    source: Source<'_>,
+    source: Source<'_, '_>,
     reading: &mut Reading,
     bracket: Bracket,
     pair: Pair,
@@ -463,7 +476,7 @@ fn end_pair(
 /// An `Err` says that memory ran out.
 fn close(
     alloc: Global,
-    source: Source<'_>,
+    source: Source<'_, '_>,
     reading: &mut Reading,
     bracket: Bracket,
     inside: &[u8],
@@ -474,9 +487,9 @@ fn close(
     ensures { OnOk result ((k : Closing source.entry.start bracket reading.old) →
         ClosedAs source.entry.start bracket reading.old k
         (closed.pair_at source.entry.options.now
-        (content.has_form (map string_bytes source.entry.labels.definitions.now))
-        (content.has_form (map string_bytes source.entry.labels.footnotes.now)) bracket.len k.items reading.old.links
-        inside.now following.now) reading.new) }
+        (content.has_form (map string_bytes source.entry.labels.now.definitions.forms.now))
+        (content.has_form (map string_bytes source.entry.labels.now.footnotes.forms.now)) bracket.len k.items
+        reading.old.links inside.now following.now) reading.new) }
 {
     let found = pair_of(alloc, source, bracket.len, reading.links, inside, following)?;
     match found {
@@ -490,19 +503,22 @@ fn close(
 /// An `Err` says that memory ran out.
 fn step(
     alloc: Global,
-    source: Source<'_>,
+    source: Source<'_, '_>,
+    ends: &Ends,
     byte: u8,
     following: &[u8],
     reading: &mut Reading,
 ) -> Result<(), Message>
     requires reads { Reads source reading.old }
     requires is { drop reading.old.at source.text.now ≡ byte ∷ following.now }
+    requires ends { AreEnds source.text.now ends.now }
     ensures { OnOk result (Goes source.entry reading.old reading.new) }
 {
     let inside = !reading.brackets.is_empty();
     let before = front(source.text, reading.at);
     let rest = after(source.text, reading.at);
-    match front_at(source.options, inside, before, byte, rest) {
+    let absent = absent_at(ends, source.text, reading.at, rest);
+    match front_at(source.options, inside, absent, before, byte, rest) {
         Front::Found(found) => add_atom(reading, found),
         Front::Marks(run) => add_run(reading, run),
         Front::Text => add_text(reading),
@@ -518,8 +534,21 @@ fn step(
     }
 }
 
+/// Reads the bytes at the front of what is left of a text that begin nothing.
+///
+/// An `Err` says that the text is longer than one in memory can be.
+fn pass_text(source: Source<'_, '_>, reading: &mut Reading) -> Result<(), Message>
+    requires { Reads source reading.old }
+    ensures { OnOk result (Passes source.entry reading.old reading.new) }
+{
+    let literals = source.options.constructs.gfm_autolink_literal;
+    let len = text_len(literals, after(source.text, reading.at));
+    reading.at = past(reading.at, len)?;
+    Ok(())
+}
+
 /// Matches the runs that are left where a text ends.
-fn match_last(source: Source<'_>, reading: &mut Reading)
+fn match_last(source: Source<'_, '_>, reading: &mut Reading)
     requires reads { Reads source reading.old }
     requires end { length (drop reading.old.at source.text.now) ≡ 0 }
     ensures { Shows source.entry.start [] (closed.level_forest source.entry) reading.new.spans.items }
@@ -533,9 +562,11 @@ fn match_last(source: Source<'_>, reading: &mut Reading)
 /// The spans of a text from a place on.
 ///
 /// An `Err` says that memory ran out.
-pub(crate) fn read(alloc: Global, source: Source<'_>) -> Result<Vec<Span>, Message>
+pub(crate) fn read(alloc: Global, source: Source<'_, '_>) -> Result<Vec<Span>, Message>
     ensures { IfOk result (λ made. Shows source.entry.start [] (closed.level_forest source.entry) made.items) }
 {
+    let on = source.options.constructs;
+    let ends = ends_of(alloc, on.code_text, on.math_text, on.html_text, source.text)?;
     let mut reading = Reading {
         spans: Vec::new(alloc),
         runs: Vec::new(alloc),
@@ -543,8 +574,10 @@ pub(crate) fn read(alloc: Global, source: Source<'_>) -> Result<Vec<Span>, Messa
         links: false,
         at: source.start,
     };
+    pass_text(source, &mut reading)?;
     while let Some((byte, following)) = after(source.text, reading.at).split_first() {
-        step(alloc, source, *byte, following, &mut reading)?;
+        step(alloc, source, &ends, *byte, following, &mut reading)?;
+        pass_text(source, &mut reading)?;
     }
     match_last(source, &mut reading);
     Ok(reading.spans)

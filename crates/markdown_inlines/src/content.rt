@@ -1,35 +1,51 @@
-// The spans of the inline content of a text (CommonMark 6).
+// The tokens of the inline content of a text (CommonMark 6).
 
-ghost use Rattle.std.specs.Prelude.{◌≡◌, ◌++◌, false, [], IfOk, OnOk, drop, map, string_bytes, take};
+ghost use Rattle.std.specs.Prelude.{◌≡◌, ◌≤◌, ◌++◌, false, if◌then◌else◌, [], IfOk, OnOk, drop, length, map, take};
+ghost use Rattle.std.specs.Prelude.{string_bytes};
+ghost use Rattle.md_engine.specs.declared.event.Name.TheVariants as n;
+ghost use Rattle.md_inline_events.specs.Forest.{nothing};
+ghost use Rattle.md_inline_events.specs.Tokens as listed;
 ghost use Rattle.md_inlines.specs.Content as inlines;
-ghost use Rattle.markdown_inlines.specs.Closed as closed;
-ghost use Rattle.markdown_inlines.specs.Filled.{Shows};
+ghost use Rattle.md_inlines.specs.Task as task;
 ghost use Rattle.markdown_inlines.specs.Given.{labels_of};
 
 use crate::brackets::{Source, read};
-use crate::labels::Defined;
-use crate::span::{Span, push_spans};
+use crate::emails::with_addresses;
+use crate::tokens::tokens_of;
 use md_engine::event::Name;
 use md_engine::message::Message;
+use md_events::labels::Labels;
+use md_inline_events::token::Token;
 use md_inlines::InlineOptions;
 use md_inlines::task::{is_checked, is_task};
 use std::alloc::Global;
 
-/// The spans of a text from a place on.
+/// What a check says by the byte between its brackets.
+fn value_of(byte: u8) -> Name
+    ensures { result ≡
+        (if task.is_checked byte then n.GfmTaskListItemValueChecked else n.GfmTaskListItemValueUnchecked) }
+{
+    if is_checked(byte) {
+        Name::GfmTaskListItemValueChecked
+    } else {
+        Name::GfmTaskListItemValueUnchecked
+    }
+}
+
+/// The tokens of a text from a place on.
 ///
 /// An `Err` says that memory ran out.
-fn spans_from(
+fn tokens_from(
     alloc: Global,
     options: &InlineOptions,
-    labels: Defined<'_>,
+    labels: &Labels<'_>,
     text: &[u8],
     start: usize,
-) -> Result<Vec<Span>, Message>
-    requires { options.now.constructs.gfm_autolink_literal ≡ false }
-    ensures { IfOk result (λ made. Shows start [] (inlines.forest_after options.now
-        (inlines.has_form (map string_bytes labels.entry.definitions.now))
-        (inlines.has_form (map string_bytes labels.entry.footnotes.now)) (take start text.now) (drop start text.now))
-        made.items) }
+) -> Result<Vec<Token>, Message>
+    requires { start ≤ length text.now }
+    ensures { IfOk result (λ made. made.items ≡ listed.tokens (inlines.forest_after options.now
+        (inlines.has_form (map string_bytes labels.now.definitions.forms.now))
+        (inlines.has_form (map string_bytes labels.now.footnotes.forms.now)) (take start text.now) (drop start text.now))) }
 {
     let source = Source {
         options,
@@ -37,55 +53,67 @@ fn spans_from(
         text,
         start,
     };
-    read(alloc, source)
+    let spans = read(alloc, source)?;
+    let tokens = tokens_of(alloc, &spans, start, text.len())?;
+    if options.constructs.gfm_autolink_literal {
+        with_addresses(alloc, text, start, &tokens)
+    } else {
+        Ok(tokens)
+    }
 }
 
-/// Adds the spans of the check of a task item, with this byte between its brackets.
+/// Adds tokens.
 ///
 /// An `Err` says that memory ran out.
-fn push_check(spans: &mut Vec<Span>, byte: u8) -> Result<(), Message>
-    ensures { OnOk result (spans.new.items ≡ spans.old.items ++ closed.check_spans byte) }
+fn push_tokens(tokens: &mut Vec<Token>, more: &[Token]) -> Result<(), Message>
+    ensures { OnOk result (tokens.new.items ≡ tokens.old.items ++ more.now) }
 {
-    let value = if is_checked(byte) {
-        Name::GfmTaskListItemValueChecked
-    } else {
-        Name::GfmTaskListItemValueUnchecked
-    };
-    push_spans(
-        spans,
+    match tokens.extend_from_slice(more) {
+        Ok(()) => Ok(()),
+        Err(_) => Err(Message),
+    }
+}
+
+/// Adds the tokens of the check of a task item, with this byte between its brackets.
+///
+/// An `Err` says that memory ran out.
+fn push_check_tokens(tokens: &mut Vec<Token>, byte: u8) -> Result<(), Message>
+    ensures { OnOk result
+        (tokens.new.items ≡ tokens.old.items ++ listed.tokens (inlines.check byte nothing)) }
+{
+    push_tokens(
+        tokens,
         &[
-            Span::new(Name::GfmTaskListItemCheck, 0, 3),
-            Span::new(Name::GfmTaskListItemMarker, 0, 1),
-            Span::new(value, 1, 2),
-            Span::new(Name::GfmTaskListItemMarker, 2, 3),
+            Token::Enters(Name::GfmTaskListItemCheck),
+            Token::Over(Name::GfmTaskListItemMarker, 1),
+            Token::Over(value_of(byte), 1),
+            Token::Over(Name::GfmTaskListItemMarker, 1),
+            Token::Leaves(Name::GfmTaskListItemCheck),
         ],
     )
 }
 
-/// The spans of the inline content of a text, in a document that defines these labels. `first` says that the text is
+/// The tokens of the inline content of a text, in a document that defines these labels. `first` says that the text is
 /// that of the first paragraph of an item.
 ///
-/// Addresses without angle brackets are not read yet, so their construct is off.
-///
 /// An `Err` says that memory ran out.
-pub fn content_spans(
+pub fn content_tokens(
     alloc: Global,
     options: &InlineOptions,
-    labels: Defined<'_>,
+    labels: &Labels<'_>,
     first: bool,
     text: &[u8],
-) -> Result<Vec<Span>, Message>
-    requires { options.now.constructs.gfm_autolink_literal ≡ false }
+) -> Result<Vec<Token>, Message>
     ensures { IfOk result (λ made.
-        Shows 0 [] (inlines.content options.now (labels_of labels.entry) first text.now) made.items) }
+        made.items ≡ listed.tokens (inlines.content options.now (labels_of labels.now) first text.now)) }
 {
     if options.constructs.gfm_task_list_item && first && is_task(text) {
         let mut made = Vec::new(alloc);
-        push_check(&mut made, text[1])?;
-        let rest = spans_from(alloc, options, labels, text, 3)?;
-        push_spans(&mut made, &rest)?;
+        push_check_tokens(&mut made, text[1])?;
+        let rest = tokens_from(alloc, options, labels, text, 3)?;
+        push_tokens(&mut made, &rest)?;
         Ok(made)
     } else {
-        spans_from(alloc, options, labels, text, 0)
+        tokens_from(alloc, options, labels, text, 0)
     }
 }

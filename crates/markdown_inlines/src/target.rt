@@ -9,11 +9,12 @@ ghost use Rattle.markdown_inlines.specs.Filled.{Shows};
 ghost use Rattle.markdown_inlines.specs.Leading as spec;
 
 use crate::atom::{push_atom, string_atom};
-use crate::labels::{has_form, is_own_label};
+use crate::labels::{is_definition, is_own_label};
 use crate::slices::{after, front};
 use crate::span::{Span, past, push_spans};
 use md_engine::event::Name;
 use md_engine::message::Message;
+use md_events::labels::Labels;
 use md_inlines::target::{label_len, resource_at};
 use md_inlines::{InlineOptions, Resource};
 use md_scan::ahead::begins_with;
@@ -36,14 +37,15 @@ pub enum Target {
 /// An `Err` says that memory ran out.
 fn short(
     alloc: Global,
-    definitions: &[String],
+    labels: &Labels<'_>,
     inside: &[u8],
     following: &[u8],
 ) -> Result<Option<Target>, Message>
     ensures { (options : Asked) → IfOk result (λ made. option_map (spec.leads options following.now) made ≡
-        targets.short options (content.has_form (map string_bytes definitions.now)) inside.now following.now) }
+        targets.short options (content.has_form (map string_bytes labels.now.definitions.forms.now)) inside.now
+        following.now) }
 {
-    if !is_own_label(alloc, inside)? || !has_form(alloc, definitions, inside)? {
+    if !is_own_label(inside) || !is_definition(alloc, labels, inside)? {
         return Ok(None);
     }
     if begins_with(b'[', following) && begins_with(b']', after(following, 1)) {
@@ -68,18 +70,18 @@ fn label_after(text: &[u8]) -> Option<usize>
 /// An `Err` says that memory ran out.
 fn reference_after(
     alloc: Global,
-    definitions: &[String],
+    labels: &Labels<'_>,
     inside: &[u8],
     following: &[u8],
 ) -> Result<Option<Target>, Message>
     ensures { (options : Asked) → IfOk result (λ made. option_map (spec.leads options following.now) made ≡
-        targets.reference_after options (content.has_form (map string_bytes definitions.now)) inside.now
-        following.now) }
+        targets.reference_after options (content.has_form (map string_bytes labels.now.definitions.forms.now))
+        inside.now following.now) }
 {
     let Some(len) = label_after(following) else {
-        return short(alloc, definitions, inside, following);
+        return short(alloc, labels, inside, following);
     };
-    if has_form(alloc, definitions, front(after(following, 1), len))? {
+    if is_definition(alloc, labels, front(after(following, 1), len))? {
         Ok(Some(Target::Full(len)))
     } else {
         Ok(None)
@@ -102,16 +104,17 @@ fn resource_found(text: &[u8]) -> Option<Resource>
 /// An `Err` says that memory ran out.
 pub(crate) fn target_of(
     alloc: Global,
-    definitions: &[String],
+    labels: &Labels<'_>,
     inside: &[u8],
     following: &[u8],
 ) -> Result<Option<Target>, Message>
     ensures { (options : Asked) → IfOk result (λ made. option_map (spec.leads options following.now) made ≡
-        targets.target options (content.has_form (map string_bytes definitions.now)) inside.now following.now) }
+        targets.target options (content.has_form (map string_bytes labels.now.definitions.forms.now)) inside.now
+        following.now) }
 {
     match resource_found(following) {
         Some(resource) => Ok(Some(Target::Resource(resource))),
-        None => reference_after(alloc, definitions, inside, following),
+        None => reference_after(alloc, labels, inside, following),
     }
 }
 

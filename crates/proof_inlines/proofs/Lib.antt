@@ -14,3 +14,4 @@ pub mod AngleLemmas
 pub mod LiteralLemmas
 pub mod TargetLemmas
 pub mod Promise
+pub mod ReadLemmas

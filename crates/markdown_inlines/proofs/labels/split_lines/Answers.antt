@@ -1,10 +1,14 @@
-use Rattle.std.proofs.Common.{rules, tests}
-use Rattle.std.proofs.lemmas.Iterator.Consumers.{map_from_collect}
+use Rattle.std.proofs.Common.{ap, ◌∙◌, rules, tests}
+use Rattle.std.proofs.lemmas.Iterator.Consumers.{YieldsList-end}
 use Rattle.std.proofs.lemmas.Iterator.Splits.{YieldsList-from_slice_split}
+use Rattle.md_scan.specs.Definitions.{texts}
 use Rattle.markdown_inlines.proofs.labels.split_lines.Goals as goal
 
 pub returns : goal.returns
 returns c =
-    map_from_collect _ c.collect.ensures.ran
-    (YieldsList-from_slice_split _ _ c.args.text.now c.split.ensures.rest c.split.ensures.done
-    c.split.ensures.closure (λ x b q k. search (rules, tests)))
+    let all = YieldsList-end
+    (YieldsList-from_slice_split _ _ c.args.text.now
+    (cc) (cc)
+    (cc) (λ x b q k. search (rules, tests))) c.loop-line.yielded _ c.loop-line.yielded_by _ _
+    c.in-None.is c.next.ensures.steps in
+    ap texts c.loop-line.invariant ∙ all.0

@@ -11,6 +11,6 @@ returns-in_default c options =
     (λ made is.
     is
     ∙ sym
-    (no-label options (has_form (map string_bytes c.args.definitions.now)) c.args.inside.now c.args.following.now
-    (sym c.in_default.ensures)))
+    (no-label options (has_form (map string_bytes c.args.labels.now.definitions.forms.now)) c.args.inside.now
+    c.args.following.now (sym c.in_default.ensures)))
     (c.short.ensures options)

@@ -14,6 +14,6 @@ returns-in-None c options =
     is
     ∙ ap
     (λ (o : Option Forest). or_else o
-    (reference_after options (has_form (map string_bytes c.args.definitions.now)) c.args.inside.now
+    (reference_after options (has_form (map string_bytes c.args.labels.now.definitions.forms.now)) c.args.inside.now
     c.args.following.now)) (c.in-None.ensures options))
     (c.reference_after.ensures options)
