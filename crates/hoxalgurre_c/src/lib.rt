@@ -1,14 +1,18 @@
 // The parser for C: `hoxalgurre_events`, which `include/hoxalgurre.h` declares.
 //
 // No memory is handed over: C lends the text and an array, and gets back how many events there are. Where the array is
-// too small, the events that fit are written, and C calls again with a larger one. What a call allocates for itself it
-// frees before it returns. All that C has to meet is checked at the call; but that both pointers are those of so many
-// bytes and of so many events.
+// too small, the events that fit are written, and C calls again with a larger one. The text is read part by part, so
+// beside the array only the events of one part are in memory. What a call allocates for itself it frees before it
+// returns. All that C has to meet is checked at the call; but that both pointers are those of so many bytes and of so
+// many events.
 #![tactic(auto)]
+
+ghost use Rattle.markdown_blocks.specs.Parsed.{IsSmall, IsWithoutMdx};
 
 use markdown_blocks::configuration::ParseOptions;
 use markdown_blocks::event::{Event, Kind};
-use markdown_blocks::parser::{MAX_LEN, parse};
+use markdown_blocks::message::Message;
+use markdown_blocks::parser::{MAX_LEN, Parts};
 use std::alloc::Global;
 use std::str;
 
@@ -34,14 +38,14 @@ pub struct HoxalgurreEvent {
 #[repr(C)]
 #[derive(Drop)]
 pub struct HoxalgurreAnswer {
-    /// 0: done; 1: the text is not UTF-8; 2: it has more than `MAX_LEN` bytes; 3: memory ran out; 4: an unknown set of
-    /// constructs.
+    /// 0: done; 1: the text is not UTF-8; 2: it has more than `MAX_LEN` bytes; 3: memory ran out, and some events may
+    /// have been written; 4: an unknown set of constructs.
     pub status: u32,
     /// Where the status is 0, how many events there are; where it is 1, how many bytes are UTF-8; else 0.
     pub count: usize,
 }
 
-/// The answer to a call that writes no events.
+/// The answer to a call that has no events to count.
 fn refused(status: u32, count: usize) -> HoxalgurreAnswer {
     HoxalgurreAnswer { status, count }
 }
@@ -69,19 +73,37 @@ pub extern "C" fn hoxalgurre_events(
         Ok(text) => text,
         Err(error) => return refused(1, error.valid_up_to()),
     };
-    let Ok((events, _state)) = parse(alloc, text, options) else {
-        return refused(3, 0);
-    };
-    write_events(&events, out);
-    HoxalgurreAnswer {
-        status: 0,
-        count: events.len(),
+    match write_parts(alloc, text, options, out) {
+        Ok(count) => HoxalgurreAnswer { status: 0, count },
+        Err(Message) => refused(3, 0),
     }
 }
 
-/// Writes the events that have room.
-fn write_events(events: &[Event], out: &mut [HoxalgurreEvent]) {
-    for (to, event) in out.iter_mut().zip(events.iter()) {
+/// Writes the events of a text that have room, and counts all.
+///
+/// An `Err` says that memory ran out; then those of some parts may have been written.
+fn write_parts(
+    alloc: Global,
+    text: &str,
+    options: &ParseOptions,
+    out: &mut [HoxalgurreEvent],
+) -> Result<usize, Message>
+    requires size { IsSmall text.now }
+    requires built { IsWithoutMdx options.now }
+{
+    let mut count: usize = 0;
+    let mut parts = Parts::new(alloc, text, options);
+    while let Some(part) = parts.next()? {
+        write_events(&part.events, count, out);
+        count = count.saturating_add(part.events.len());
+        parts.reuse(part);
+    }
+    Ok(count)
+}
+
+/// Writes the events that have room after so many others.
+fn write_events(events: &[Event], before: usize, out: &mut [HoxalgurreEvent]) {
+    for (to, event) in out.iter_mut().skip(before).zip(events.iter()) {
         *to = HoxalgurreEvent {
             name: event.name as u16,
             is_exit: if event.kind == Kind::Exit { 1 } else { 0 },

@@ -1,20 +1,26 @@
-// The HTML of a list of events, in one walk from the first to the last.
+// The HTML of a text, in one walk over its events from the first to the last.
 //
 // The list nests: a part has an enter and an exit, and what is between them is in the part. So tags are written
 // where parts begin and end, and only little has to be known of what is open. Texts are written at the exit of their
 // piece: a piece is entered right before, so its bytes lie between the last enter and this exit.
+//
+// The text is read a few whole blocks at a time (`Parts`), and only the events of these are in memory. No block is open
+// between two such parts of a text, so what has to be known ahead is that of the blocks of one.
+ghost use Rattle.markdown_blocks.specs.Parsed.{IsSmall, IsWithoutMdx};
 
 use crate::ahead::{alert, has_word, list_start, read_columns, words};
 use crate::escape::{push_escaped, without_indent};
 use crate::loose::loose_lists;
 use crate::tags::{Shown, begins_line, shown_after, shown_in, tags};
+use markdown_blocks::configuration::ParseOptions;
 use markdown_blocks::event::{Event, Kind, Name, Point};
 use markdown_blocks::message::Message;
-use markdown_blocks::outline::{OutlineLine, Word, outline};
-use markdown_blocks::parser::ParseState;
+use markdown_blocks::outline::{Word, outline};
+use markdown_blocks::parser::{ParseState, Part, Parts};
 use markdown_blocks::slice::{Position, Slice};
 use std::alloc::{AllocError, Global};
 use std::collections::BTreeSet;
+use std::mem;
 
 /// What is written, and what has to be known of the parts that are open.
 #[derive(Drop)]
@@ -23,9 +29,9 @@ struct Page<'a> {
     /// The text.
     bytes: &'a [u8],
     html: String,
-    /// The words of the blocks and rows, in the order of the text.
+    /// The words of the blocks and rows of the part of the text that is read, in its order.
     words: Vec<Word>,
-    /// How many blocks and rows have begun.
+    /// How many of them have begun.
     begun: usize,
     /// Where the part begins that was entered last.
     start: Point,
@@ -39,15 +45,15 @@ struct Page<'a> {
     column: usize,
     /// Whether the last row is in the head of its table.
     is_head: bool,
-    /// The labels of the footnote definitions, in the order of the text.
-    labels: &'a [String],
-    /// How many footnote definitions have begun.
+    /// The labels of the footnote definitions of that part.
+    labels: Vec<String>,
+    /// How many of these have begun.
     footnotes: usize,
     /// What is written as an `id`.
     ids: BTreeSet<String>,
-    /// Whether each list is loose, in the order of the text.
+    /// Whether each list of that part is loose.
     loose: Vec<bool>,
-    /// How many lists have begun.
+    /// How many of these have begun.
     lists: usize,
     /// Of each list, quote and footnote definition that is open, whether it is a tight list.
     tight: Vec<bool>,
@@ -59,55 +65,82 @@ struct Page<'a> {
 ///
 /// A paragraph directly in an item of a tight list has no `<p>` around it. Footnote definitions are shown where the
 /// text has them, definitions and frontmatter not at all.
-pub fn render(alloc: Global, events: &[Event], state: &ParseState) -> Result<String, Message> {
-    let lines = outline(alloc, events, state)?;
-    match write_page(alloc, events, &lines, state) {
-        Ok(html) => Ok(html),
-        Err(_) => Err(Message),
+pub fn render(alloc: Global, text: &str, options: &ParseOptions) -> Result<String, Message>
+    requires size { IsSmall text.now }
+    requires built { IsWithoutMdx options.now }
+{
+    let state = ParseState {
+        options,
+        bytes: text.as_bytes(),
+        definitions: Vec::new(alloc),
+        gfm_footnote_definitions: Vec::new(alloc),
+    };
+    let mut page = Page::new(alloc, state.bytes);
+    let mut parts = Parts::new(alloc, text, options);
+    while let Some(next) = parts.next()? {
+        let mut part = next;
+        page.begin_part(&mut part, &state)?;
+        write_part(&mut page, &part.events)?;
+        parts.reuse(part);
     }
+    Ok(page.html)
 }
 
-fn write_page(
-    alloc: Global,
-    events: &[Event],
-    lines: &[OutlineLine],
-    state: &ParseState,
-) -> Result<String, AllocError> {
-    let mut page = Page {
-        alloc,
-        bytes: state.bytes,
-        html: String::new(alloc),
-        words: words(alloc, lines)?,
-        begun: 0,
-        start: Point {
-            line: 1,
-            column: 1,
-            index: 0,
-            vs: 0,
-        },
-        shown: Shown::Nothing,
-        depth: 1,
-        columns: Vec::new(alloc),
-        column: 0,
-        is_head: false,
-        labels: &state.gfm_footnote_definitions,
-        footnotes: 0,
-        ids: BTreeSet::new(alloc),
-        loose: loose_lists(alloc, events)?,
-        lists: 0,
-        tight: Vec::new(alloc),
-        alerts: Vec::new(alloc),
-    };
+/// Writes the blocks of a part of the text.
+fn write_part(page: &mut Page, events: &[Event]) -> Result<(), AllocError> {
     for (at, event) in events.iter().enumerate() {
         match event.kind {
             Kind::Enter => page.enter(event, events.get(at..).unwrap_or(&[]))?,
             Kind::Exit => page.exit(event)?,
         }
     }
-    Ok(page.html)
+    Ok(())
 }
 
 impl<'a> Page<'a> {
+    /// A page on which nothing is written.
+    fn new(alloc: Global, bytes: &'a [u8]) -> Page<'a> {
+        Page {
+            alloc,
+            bytes,
+            html: String::new(alloc),
+            words: Vec::new(alloc),
+            begun: 0,
+            start: Point {
+                line: 1,
+                column: 1,
+                index: 0,
+                vs: 0,
+            },
+            shown: Shown::Nothing,
+            depth: 1,
+            columns: Vec::new(alloc),
+            column: 0,
+            is_head: false,
+            labels: Vec::new(alloc),
+            footnotes: 0,
+            ids: BTreeSet::new(alloc),
+            loose: Vec::new(alloc),
+            lists: 0,
+            tight: Vec::new(alloc),
+            alerts: Vec::new(alloc),
+        }
+    }
+
+    /// Notes what has to be known ahead of the blocks of the next part of the text, and takes the labels of its footnote
+    /// definitions.
+    fn begin_part(&mut self, part: &mut Part, state: &ParseState) -> Result<(), Message> {
+        let lines = outline(self.alloc, &part.events, state)?;
+        self.words = words(self.alloc, &lines)?;
+        self.begun = 0;
+        self.loose = loose_lists(self.alloc, &part.events)?;
+        self.lists = 0;
+        let no_labels = Vec::new(self.alloc);
+        self.labels = mem::replace(&mut part.gfm_footnote_definitions, no_labels);
+        self.footnotes = 0;
+        Ok(())
+    }
+
     /// Begins a part; `ahead` are the events from its enter on.
     fn enter(&mut self, event: &Event, ahead: &[Event]) -> Result<(), AllocError> {
         self.start = event.point;

@@ -1,1 +1,3 @@
+pub mod LinedParts
 pub mod PartsPrinted
+pub mod WholeParts

@@ -1,15 +1,23 @@
 // What the program `blocks` prints of a text.
-ghost use Rattle.std.specs.Prelude.{◌≡◌, ◌++◌, OnOk, string_bytes};
+//
+// The text is read part by part: of each part the outline is put after the output, and its labels after those of the
+// parts before it. Then the list of its events is lent to the next part. So no more events and lines of the outline are
+// in memory than those of one part. The output is whole before any of it is written, so that where memory runs out
+// nothing is.
+ghost use Rattle.std.specs.Prelude.{◌≡◌, ◌++◌, IfOk, OnOk, map, string_bytes};
 ghost use Rattle.std.specs.List.{flat_map};
+ghost use Rattle.md_events.specs.Events.Spelled.{spelled};
+ghost use Rattle.md_meaning.specs.Label.{labels};
+ghost use Rattle.md_meaning.specs.Meaning.{tree};
 ghost use Rattle.md_meaning.specs.Outline.{outline};
 ghost use Rattle.md_outline.specs.Outlined.{IsOutlined};
 ghost use Rattle.md_program.specs.Printed.{PrintsOutline, printed_line};
-ghost use Rattle.md_events.specs.Events.Spelled.{spelled};
+ghost use Rattle.markdown_blocks.specs.Parsed.{IsSmall, IsWithoutMdx};
 ghost use Rattle.printing.specs.Built.{Outlines, built_from};
 
 use crate::blocks::Blocks;
 use markdown_blocks::outline::outline_part;
-use markdown_blocks::parser::{ParseState, parse};
+use markdown_blocks::parser::{ParseState, Part, Parts};
 use md_engine::configuration::ParseOptions;
 use md_engine::event::Event;
 use md_engine::message::Message;
@@ -18,7 +26,7 @@ use md_program::print::{push_end, push_lines, with_room};
 use md_program::printing::Printing;
 use std::alloc::Global;
 
-/// Prints the outline of a text. It makes the outline part by part, and holds the lines of one part at a time.
+/// Prints the outline of a text, which is read part by part.
 pub struct PartByPart;
 
 impl Printing for PartByPart {
@@ -26,19 +34,97 @@ impl Printing for PartByPart {
 
     fn output(alloc: Global, text: &str, options: ParseOptions) -> Result<String, Message> {
         let options = Blocks::built(options);
-        let (events, state) = parse(alloc, text, &options)?;
         let mut output = with_room(alloc, text)?;
-        push_outline(alloc, &events, &state, &mut output)?;
+        let found = push_parts(alloc, text, &options, &mut output)?;
         push_end(
             &mut output,
-            state.definitions.as_slice(),
-            state.gfm_footnote_definitions.as_slice(),
+            found.definitions.as_slice(),
+            found.footnotes.as_slice(),
         )?;
         Ok(output)
     }
 }
 
-// Puts the outline of the events after the output.
+/// The labels of a text or of its first parts, in their normal forms and in the order of the text, repeats kept.
+#[derive(Drop)]
+struct Found {
+    /// Those of the link reference definitions.
+    definitions: Vec<String>,
+    /// Those of the footnote definitions.
+    footnotes: Vec<String>,
+}
+
+/// A state with no labels: of a state an outline needs the bytes of the text alone.
+fn text_state<'a>(alloc: Global, text: &'a str, options: &'a ParseOptions) -> ParseState<'a>
+    ensures { result.bytes.now ≡ text.now }
+{
+    ParseState {
+        options,
+        bytes: text.as_bytes(),
+        definitions: Vec::new(alloc),
+        gfm_footnote_definitions: Vec::new(alloc),
+    }
+}
+
+/// Puts the outline of a text after the output, and returns its labels.
+fn push_parts(
+    alloc: Global,
+    text: &str,
+    options: &ParseOptions,
+    output: &mut String,
+) -> Result<Found, Message>
+    requires small { IsSmall text.now }
+    requires built { IsWithoutMdx options.now }
+    ensures lines { IfOk result
+        (λ found.
+        string_bytes output.new ≡
+        string_bytes output.old ++ flat_map printed_line (outline 0 (tree options.now text.now))) }
+    ensures definitions { IfOk result
+        (λ found.
+        map string_bytes found.definitions.items ≡ (labels (tree options.now text.now)).definitions) }
+    ensures footnotes { IfOk result
+        (λ found.
+        map string_bytes found.footnotes.items ≡ (labels (tree options.now text.now)).footnotes) }
+{
+    let state = text_state(alloc, text, options);
+    let mut found = Found {
+        definitions: Vec::new(alloc),
+        footnotes: Vec::new(alloc),
+    };
+    let mut parts = Parts::new(alloc, text, options);
+    while let Some(next) = parts.next()? {
+        let mut part = next;
+        push_part(alloc, &mut part, &state, &mut found, output)?;
+        parts.reuse(part);
+    }
+    Ok(found)
+}
+
+/// Puts the outline of a part after the output, and moves its labels after those that were found.
+fn push_part(
+    alloc: Global,
+    part: &mut Part,
+    state: &ParseState,
+    found: &mut Found,
+    output: &mut String,
+) -> Result<(), Message>
+    requires { IsOutlined part.old.events.items state.now.bytes.now }
+    ensures lines { OnOk result
+        (string_bytes output.new ≡
+        string_bytes output.old
+        ++ flat_map printed_line (outline 0 (spelled part.old.events.items state.now.bytes.now))) }
+    ensures definitions { OnOk result
+        (found.new.definitions.items ≡ found.old.definitions.items ++ part.old.definitions.items) }
+    ensures footnotes { OnOk result
+        (found.new.footnotes.items ≡ found.old.footnotes.items ++ part.old.gfm_footnote_definitions.items) }
+{
+    push_outline(alloc, &part.events, state, output)?;
+    found.definitions.append(&mut part.definitions)?;
+    found.footnotes.append(&mut part.gfm_footnote_definitions)?;
+    Ok(())
+}
+
+/// Puts the outline of the events after the output.
 fn push_outline(
     alloc: Global,
     events: &[Event],

@@ -4,9 +4,12 @@
 // quotes, items and footnote definitions divide those and not the text, so they are left out.
 
 use crate::reports::outline::{is_text, positions};
+use crate::reports::parts::OfParts;
 use crate::reports::position::Position;
 use markdown_blocks::event::Event;
-use markdown_blocks::outline::{OutlineLine, Word};
+use markdown_blocks::message::Message;
+use markdown_blocks::outline::{OutlineLine, Word, outline};
+use markdown_blocks::parser::{ParseState, Part};
 use serde::Serialize;
 use std::alloc::{AllocError, Global};
 
@@ -32,16 +35,31 @@ impl Heading {
     }
 }
 
-/// The headings of a text of `len` bytes, in its order: those of its outline that are in no other block.
-pub(crate) fn headings(
+/// The headings of a text as far as it is read, in its order: those of its outline that are in no other block.
+#[derive(Drop)]
+pub(crate) struct Headings {
+    pub(crate) alloc: Global,
+    /// The ends of their sections are set once all are found.
+    pub(crate) found: Vec<Heading>,
+}
+
+impl<'a> OfParts<'a> for Headings {
+    fn take(&mut self, part: &mut Part, state: &ParseState<'a>) -> Result<(), Message> {
+        let lines = outline(self.alloc, &part.events, state)?;
+        push_found(self.alloc, &mut self.found, &part.events, &lines)?;
+        Ok(())
+    }
+}
+
+/// Appends the headings of some blocks.
+fn push_found(
     alloc: Global,
+    found: &mut Vec<Heading>,
     events: &[Event],
     lines: &[OutlineLine],
-    len: usize,
-) -> Result<Vec<Heading>, AllocError> {
+) -> Result<(), AllocError> {
     let positions = positions(alloc, events)?;
     let mut places = positions.iter();
-    let mut found: Vec<Heading> = Vec::new(alloc);
     let mut is_heading = false;
     for line in lines {
         if is_text(line.word) {
@@ -62,13 +80,12 @@ pub(crate) fn headings(
             })?;
         }
     }
-    end_sections(&mut found, len);
-    Ok(found)
+    Ok(())
 }
 
-/// Sets the ends of all sections, from the last to the first. `ends` has for each depth where the next section begins
-/// that is not deeper.
-fn end_sections(found: &mut [Heading], len: usize) {
+/// Sets the ends of all sections of a text of `len` bytes, from the last to the first. `ends` has for each depth where
+/// the next section begins that is not deeper.
+pub(crate) fn end_sections(found: &mut [Heading], len: usize) {
     let mut ends = [len; 7];
     for heading in found.iter_mut().rev() {
         heading.section_end = ends.get(heading.depth).copied().unwrap_or(len);

@@ -3,11 +3,12 @@
 // A definition whose label one before it has is a duplicate, and is never used (CommonMark 6.3). A reference that no
 // definition, or no footnote definition, answers is text. A definition that no reference names shows nothing.
 
+use crate::reports::parts::OfParts;
 use crate::reports::position::{Place, Position};
-use crate::reports::references::{Reference, references};
+use crate::reports::references::{Reference, push_all};
 use markdown_blocks::event::{Event, Kind, Name};
 use markdown_blocks::message::Message;
-use markdown_blocks::parser::ParseState;
+use markdown_blocks::parser::{ParseState, Part};
 use serde::Serialize;
 use std::alloc::{AllocError, Global};
 use std::collections::BTreeMap;
@@ -48,39 +49,106 @@ const FOOTNOTES: Names = Names {
     unused: "unused footnote",
 };
 
-/// All that is wrong, in the order of the text. An `Err` says that memory ran out.
-pub(crate) fn findings(
-    alloc: Global,
-    events: &[Event],
-    state: &ParseState,
-) -> Result<Vec<Finding>, Message> {
-    let mut found = Vec::new(alloc);
-    let references = references(alloc, events, state.bytes, state.options)?;
-    let links = positions(alloc, events, Name::DefinitionLabel)?;
-    check(
-        alloc,
-        &mut found,
-        &DEFINITIONS,
-        &links,
-        &state.definitions,
-        &references,
-    )?;
-    let notes = positions(alloc, events, Name::GfmFootnoteDefinitionLabel)?;
-    check(
-        alloc,
-        &mut found,
-        &FOOTNOTES,
-        &notes,
-        &state.gfm_footnote_definitions,
-        &references,
-    )?;
-    found.sort_by_key(|finding| finding.position.start.offset)?;
-    Ok(found)
+/// Definitions of links or of footnotes, in the order of the text.
+#[derive(Drop)]
+struct Defined {
+    /// Where their labels are.
+    positions: Vec<Position>,
+    /// These in their normal forms.
+    labels: Vec<String>,
 }
 
-/// Where the parts of this name are, in the order of the text.
-fn positions(alloc: Global, events: &[Event], name: Name) -> Result<Vec<Position>, AllocError> {
-    let mut positions = Vec::new(alloc);
+impl Defined {
+    fn new(alloc: Global) -> Defined {
+        Defined {
+            positions: Vec::new(alloc),
+            labels: Vec::new(alloc),
+        }
+    }
+
+    /// Appends those of some blocks: their labels, and where the parts of this name are.
+    fn push(
+        &mut self,
+        events: &[Event],
+        name: Name,
+        labels: &mut Vec<String>,
+    ) -> Result<(), AllocError> {
+        push_positions(&mut self.positions, events, name)?;
+        self.labels.append(labels)
+    }
+}
+
+/// The definitions and the references of a text, as far as it is read.
+#[derive(Drop)]
+pub(crate) struct Labels {
+    alloc: Global,
+    references: Vec<Reference>,
+    links: Defined,
+    notes: Defined,
+}
+
+impl Labels {
+    pub(crate) fn new(alloc: Global) -> Labels {
+        Labels {
+            alloc,
+            references: Vec::new(alloc),
+            links: Defined::new(alloc),
+            notes: Defined::new(alloc),
+        }
+    }
+
+    /// All that is wrong, in the order of the text. An `Err` says that memory ran out.
+    pub(crate) fn findings(&self) -> Result<Vec<Finding>, Message> {
+        let mut found = Vec::new(self.alloc);
+        check(
+            self.alloc,
+            &mut found,
+            &DEFINITIONS,
+            &self.links,
+            &self.references,
+        )?;
+        check(
+            self.alloc,
+            &mut found,
+            &FOOTNOTES,
+            &self.notes,
+            &self.references,
+        )?;
+        found.sort_by_key(|finding| finding.position.start.offset)?;
+        Ok(found)
+    }
+}
+
+impl<'a> OfParts<'a> for Labels {
+    fn take(&mut self, part: &mut Part, state: &ParseState<'a>) -> Result<(), Message> {
+        let Part {
+            events,
+            definitions,
+            gfm_footnote_definitions,
+        } = part;
+        push_all(
+            self.alloc,
+            &mut self.references,
+            events,
+            state.bytes,
+            state.options,
+        )?;
+        self.links.push(events, Name::DefinitionLabel, definitions)?;
+        self.notes.push(
+            events,
+            Name::GfmFootnoteDefinitionLabel,
+            gfm_footnote_definitions,
+        )?;
+        Ok(())
+    }
+}
+
+/// Appends where the parts of this name are, in the order of the text.
+fn push_positions(
+    positions: &mut Vec<Position>,
+    events: &[Event],
+    name: Name,
+) -> Result<(), AllocError> {
     let mut start = Place {
         line: 1,
         column: 1,
@@ -93,7 +161,7 @@ fn positions(alloc: Global, events: &[Event], name: Name) -> Result<Vec<Position
             Kind::Exit => positions.push(Position { start, end: here })?,
         }
     }
-    Ok(positions)
+    Ok(())
 }
 
 /// A definition that is the first with its label.
@@ -108,11 +176,10 @@ fn firsts<'a>(
     alloc: Global,
     found: &mut Vec<Finding>,
     names: &Names,
-    positions: &[Position],
-    labels: &'a [String],
+    defined: &'a Defined,
 ) -> Result<BTreeMap<&'a str, First>, AllocError> {
     let mut firsts: BTreeMap<&'a str, First> = BTreeMap::new(alloc);
-    for (position, label) in positions.iter().zip(labels.iter()) {
+    for (position, label) in defined.positions.iter().zip(defined.labels.iter()) {
         match firsts.get(label.as_str()) {
             Some(first) => found.push(Finding {
                 problem: names.duplicate,
@@ -137,11 +204,10 @@ fn check(
     alloc: Global,
     found: &mut Vec<Finding>,
     names: &Names,
-    positions: &[Position],
-    labels: &[String],
+    defined: &Defined,
     references: &[Reference],
 ) -> Result<(), AllocError> {
-    let mut firsts = firsts(alloc, found, names, positions, labels)?;
+    let mut firsts = firsts(alloc, found, names, defined)?;
     for reference in references {
         if reference.is_footnote != names.is_footnote {
             continue;

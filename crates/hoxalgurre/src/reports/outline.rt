@@ -2,10 +2,13 @@
 //
 // Its words and its texts are those of the program `blocks`, and its code prints them.
 
+use crate::reports::parts::OfParts;
 use crate::reports::position::{Place, Position, push_position};
 use markdown_blocks::event::{Event, Kind, Name};
+use markdown_blocks::message::Message;
 use markdown_blocks::names::is_block;
-use markdown_blocks::outline::{OutlineLine, Word};
+use markdown_blocks::outline::{OutlineLine, Word, outline};
+use markdown_blocks::parser::{ParseState, Part};
 use md_program::print::{push_front, push_head, push_line};
 use serde::Serialize;
 use std::alloc::{AllocError, Global};
@@ -30,6 +33,43 @@ pub(crate) struct Text<'a> {
     /// The columns of a cut tab before it.
     virtual_spaces: usize,
     text: &'a str,
+}
+
+/// The lines of the blocks of a text, as far as it is read.
+#[derive(Drop)]
+pub(crate) struct OutlineText {
+    pub(crate) alloc: Global,
+    pub(crate) text: String,
+}
+
+impl<'a> OfParts<'a> for OutlineText {
+    fn take(&mut self, part: &mut Part, state: &ParseState<'a>) -> Result<(), Message> {
+        let lines = outline(self.alloc, &part.events, state)?;
+        let positions = positions(self.alloc, &part.events)?;
+        push_outline(&mut self.text, &positions, &lines)?;
+        Ok(())
+    }
+}
+
+/// The blocks of a text and its labels, as far as it is read.
+#[derive(Drop)]
+pub(crate) struct OutlineBlocks<'a> {
+    pub(crate) alloc: Global,
+    pub(crate) blocks: Vec<Block<'a>>,
+    pub(crate) definitions: Vec<String>,
+    pub(crate) footnotes: Vec<String>,
+}
+
+impl<'a> OfParts<'a> for OutlineBlocks<'a> {
+    fn take(&mut self, part: &mut Part, state: &ParseState<'a>) -> Result<(), Message> {
+        let lines = outline(self.alloc, &part.events, state)?;
+        let positions = positions(self.alloc, &part.events)?;
+        let mut blocks = blocks(self.alloc, &positions, &lines)?;
+        self.blocks.append(&mut blocks)?;
+        self.definitions.append(&mut part.definitions)?;
+        self.footnotes.append(&mut part.gfm_footnote_definitions)?;
+        Ok(())
+    }
 }
 
 /// Whether the outline has a line for a part of this name.
@@ -77,7 +117,7 @@ pub(crate) fn is_text(word: Word) -> bool {
 }
 
 /// The blocks of an outline, each with its place and its texts.
-pub(crate) fn blocks<'a>(
+fn blocks<'a>(
     alloc: Global,
     positions: &[Position],
     lines: &[OutlineLine<'a>],
@@ -125,7 +165,7 @@ fn kind(alloc: Global, word: Word) -> Result<String, AllocError> {
 }
 
 /// Appends the lines of an outline as `blocks` prints them; that of a block with its place.
-pub(crate) fn push_outline(
+fn push_outline(
     text: &mut String,
     positions: &[Position],
     lines: &[OutlineLine],

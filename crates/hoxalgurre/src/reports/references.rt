@@ -91,14 +91,14 @@ fn is_text_part(name: Name) -> bool {
     )
 }
 
-/// The references of a text, in its order. An `Err` says that memory ran out.
-pub(crate) fn references(
+/// Appends the references in some blocks, in the order of the text. An `Err` says that memory ran out.
+pub(crate) fn push_all(
     alloc: Global,
+    found: &mut Vec<Reference>,
     events: &[Event],
     bytes: &[u8],
     options: &ParseOptions,
-) -> Result<Vec<Reference>, Message> {
-    let mut found = Vec::new(alloc);
+) -> Result<(), Message> {
     let mut part = Part::new(alloc, options.constructs.gfm_footnote_definition);
     let has_marks = options.constructs.gfm_table;
     let mut is_text = false;
@@ -119,11 +119,11 @@ pub(crate) fn references(
             }
             (Kind::Exit, name) if is_text_part(name) => {
                 is_text = false;
-                push_references(alloc, &part, &mut found)?;
+                push_references(alloc, &part, found)?;
                 part.may_mark = false;
             }
             _ => {}
         }
     }
-    Ok(found)
+    Ok(())
 }

@@ -3,15 +3,14 @@
 ghost use Rattle.markdown_blocks.specs.Parsed.{IsSmall, IsWithoutMdx};
 
 use crate::reports::events::{Record, records};
-use crate::reports::headings::{Heading, headings, push_headings};
-use crate::reports::labels::{Finding, findings, push_findings};
-use crate::reports::outline::{Block, blocks, positions, push_outline};
+use crate::reports::headings::{Heading, Headings, end_sections, push_headings};
+use crate::reports::labels::{Finding, Labels, push_findings};
+use crate::reports::outline::{Block, OutlineBlocks, OutlineText};
+use crate::reports::parts::hand_out;
 use html_blocks::render::render;
 use markdown_blocks::configuration::ParseOptions;
-use markdown_blocks::event::Event;
 use markdown_blocks::message::Message;
-use markdown_blocks::outline::outline;
-use markdown_blocks::parser::{ParseState, parse};
+use markdown_blocks::parser::parse;
 use printing::print::print;
 use serde::Serialize;
 use std::alloc::Global;
@@ -80,7 +79,8 @@ struct LabelsReport<'a> {
     findings: Vec<Finding>,
 }
 
-/// Parses the text of a file and reports of it. An `Err` says that memory ran out.
+/// Reads the text of a file and reports of it, part by part but where all events are reported. An `Err` says that memory
+/// ran out.
 pub fn report_on(
     alloc: Global,
     task: Task,
@@ -92,15 +92,15 @@ pub fn report_on(
     requires size { IsSmall text.now }
     requires built { IsWithoutMdx options.now }
 {
-    let (events, state) = parse(alloc, text, options)?;
     if task == Task::Labels {
-        return report_labels(alloc, format, file, &events, &state);
+        return report_labels(alloc, format, file, text, options);
     }
-    let text = match task {
-        Task::Outline => report_outline(alloc, format, file, &events, &state)?,
-        Task::Events => report_events(alloc, format, file, &events)?,
-        Task::Html => report_html(alloc, format, file, &events, &state)?,
-        _ => report_headings(alloc, format, file, &events, &state)?,
+    let text = match (task, format) {
+        (Task::Outline, Format::Text) => outline_text(alloc, text, options)?,
+        (Task::Outline, Format::Json) => outline_json(alloc, file, text, options)?,
+        (Task::Events, _) => report_events(alloc, format, file, text, options)?,
+        (Task::Html, _) => report_html(alloc, format, file, text, options)?,
+        _ => report_headings(alloc, format, file, text, options)?,
     };
     Ok(Report { text, findings: 0 })
 }
@@ -113,41 +113,60 @@ fn json<T: Serialize>(alloc: Global, value: &T) -> Result<String, Message> {
     }
 }
 
-fn report_outline(
+fn outline_text(alloc: Global, text: &str, options: &ParseOptions) -> Result<String, Message>
+    requires size { IsSmall text.now }
+    requires built { IsWithoutMdx options.now }
+{
+    let mut lines = OutlineText {
+        alloc,
+        text: String::new(alloc),
+    };
+    hand_out(alloc, text, options, &mut lines)?;
+    Ok(lines.text)
+}
+
+fn outline_json(
     alloc: Global,
-    format: Format,
     file: &str,
-    events: &[Event],
-    state: &ParseState,
-) -> Result<String, Message> {
-    let lines = outline(alloc, events, state)?;
-    let positions = positions(alloc, events)?;
-    if format == Format::Json {
-        return json(
-            alloc,
-            &OutlineReport {
-                file,
-                blocks: blocks(alloc, &positions, &lines)?,
-                definitions: &state.definitions,
-                footnotes: &state.gfm_footnote_definitions,
-            },
-        );
-    }
-    let mut text = String::new(alloc);
-    push_outline(&mut text, &positions, &lines)?;
-    Ok(text)
+    text: &str,
+    options: &ParseOptions,
+) -> Result<String, Message>
+    requires size { IsSmall text.now }
+    requires built { IsWithoutMdx options.now }
+{
+    let mut all = OutlineBlocks {
+        alloc,
+        blocks: Vec::new(alloc),
+        definitions: Vec::new(alloc),
+        footnotes: Vec::new(alloc),
+    };
+    hand_out(alloc, text, options, &mut all)?;
+    json(
+        alloc,
+        &OutlineReport {
+            file,
+            blocks: all.blocks,
+            definitions: &all.definitions,
+            footnotes: &all.footnotes,
+        },
+    )
 }
 
 fn report_events(
     alloc: Global,
     format: Format,
     file: &str,
-    events: &[Event],
-) -> Result<String, Message> {
+    text: &str,
+    options: &ParseOptions,
+) -> Result<String, Message>
+    requires size { IsSmall text.now }
+    requires built { IsWithoutMdx options.now }
+{
+    let (events, _state) = parse(alloc, text, options)?;
     if format == Format::Text {
-        return print(alloc, events);
+        return print(alloc, &events);
     }
-    let events = records(alloc, events)?;
+    let events = records(alloc, &events)?;
     json(alloc, &EventsReport { file, events })
 }
 
@@ -155,10 +174,13 @@ fn report_html(
     alloc: Global,
     format: Format,
     file: &str,
-    events: &[Event],
-    state: &ParseState,
-) -> Result<String, Message> {
-    let html = render(alloc, events, state)?;
+    text: &str,
+    options: &ParseOptions,
+) -> Result<String, Message>
+    requires size { IsSmall text.now }
+    requires built { IsWithoutMdx options.now }
+{
+    let html = render(alloc, text, options)?;
     match format {
         Format::Text => Ok(html),
         Format::Json => json(alloc, &HtmlReport { file, html }),
@@ -169,27 +191,40 @@ fn report_headings(
     alloc: Global,
     format: Format,
     file: &str,
-    events: &[Event],
-    state: &ParseState,
-) -> Result<String, Message> {
-    let lines = outline(alloc, events, state)?;
-    let headings = headings(alloc, events, &lines, state.bytes.len())?;
+    text: &str,
+    options: &ParseOptions,
+) -> Result<String, Message>
+    requires size { IsSmall text.now }
+    requires built { IsWithoutMdx options.now }
+{
+    let mut all = Headings {
+        alloc,
+        found: Vec::new(alloc),
+    };
+    hand_out(alloc, text, options, &mut all)?;
+    let mut headings = all.found;
+    end_sections(&mut headings, text.len());
     if format == Format::Json {
         return json(alloc, &HeadingsReport { file, headings });
     }
-    let mut text = String::new(alloc);
-    push_headings(&mut text, &headings)?;
-    Ok(text)
+    let mut lines = String::new(alloc);
+    push_headings(&mut lines, &headings)?;
+    Ok(lines)
 }
 
 fn report_labels(
     alloc: Global,
     format: Format,
     file: &str,
-    events: &[Event],
-    state: &ParseState,
-) -> Result<Report, Message> {
-    let found = findings(alloc, events, state)?;
+    text: &str,
+    options: &ParseOptions,
+) -> Result<Report, Message>
+    requires size { IsSmall text.now }
+    requires built { IsWithoutMdx options.now }
+{
+    let mut labels = Labels::new(alloc);
+    hand_out(alloc, text, options, &mut labels)?;
+    let found = labels.findings()?;
     let count = found.len();
     let text = match format {
         Format::Text => {

@@ -1,0 +1,9 @@
+use Rattle.std.proofs.Common.{length}
+use Rattle.markdown_blocks.specs.PartsLeft.{left_in}
+use Rattle.hoxalgurre_c.proofs.write_parts.Given as goal
+
+abbrev pub invariant-loop-parts : goal.invariant-loop-parts
+invariant-loop-parts l = Unit {0}
+
+abbrev pub decreases-loop-parts : goal.decreases-loop-parts
+decreases-loop-parts l = length (left_in l.parts).events
