@@ -85,7 +85,7 @@ pub enum LeafResult<'a> {
 }
 
 /// What a line that may start a leaf is against.
-#[derive(Clone, Copy, Debug, PartialEq, Eq)]
+#[derive(Clone, Copy, PartialEq, Eq)]
 pub enum ParagraphContext {
     /// No open paragraph.
     NoText,

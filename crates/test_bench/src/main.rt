@@ -1,13 +1,18 @@
 // The bench. The first argument says what is tried: `blocks` the parser, `references` its rows of events with that
-// layer, `plain` the plain program, `levels` both on deep nesting, `agree` both against each other on short texts,
-// `nasty` the same where constructs meet; without one it is all of these, `agree` with fewer letters. After `blocks`
-// and `plain` is a task of `test_rows::runner::task`, after `levels` how many containers are in one another, after
-// `agree` the most letters of a text, after `nasty` a task of `test_rows::runner::nasty`. It prints what disagreed, and
-// then how much was tried.
+// layer, `plain` the plain program, `levels` both on deep nesting, and the inline layer, `agree` both against each
+// other on short texts, `nasty` the same where constructs meet, `inlines` the reader of inline content against its
+// plain definition; without one it is all of these, `agree` with fewer letters. After `blocks` and `plain` is a task of
+// `test_rows::runner::task`, after `levels` how many containers are in one another, after `agree` the most letters of a
+// text, after `nasty` a task of `test_rows::runner::nasty`, after `inlines` one of `inlines`. It prints what disagreed,
+// and then how much was tried.
 #![tactic(auto)]
 
+mod inlined;
+mod inlines;
 mod referenced;
 
+use inlined::try_inline_levels;
+use inlines::Inlines;
 use printing::blocks::Blocks;
 use reference_tree::plain::Plain;
 use referenced::Referenced;
@@ -36,11 +41,12 @@ enum Bench {
     Levels(usize),
     Agree(usize),
     Nasty(Nasty),
+    Inlines(Inlines),
 }
 
 impl Bench {
     /// What is tried without an argument.
-    const ALL: [Bench; 9] = [
+    const ALL: [Bench; 11] = [
         Bench::Blocks(Task::Rows),
         Bench::References,
         Bench::Plain(Task::Rows),
@@ -50,6 +56,8 @@ impl Bench {
         Bench::Nasty(Nasty::RANDOM),
         Bench::Nasty(Nasty::ALERTS),
         Bench::Agree(LETTERS),
+        Bench::Inlines(Inlines::LETTERS),
+        Bench::Inlines(Inlines::RANDOM),
     ];
 
     /// What these arguments name, or `None` where they name nothing.
@@ -64,6 +72,7 @@ impl Bench {
             ("agree", []) => Some(Bench::Agree(MOST)),
             ("agree", [most]) => Some(Bench::Agree(most.as_str().parse().ok()?)),
             ("nasty", others) => Some(Bench::Nasty(Nasty::asked_for(others)?)),
+            ("inlines", others) => Some(Bench::Inlines(Inlines::asked_for(others)?)),
             _ => None,
         }
     }
@@ -79,10 +88,12 @@ impl Bench {
             Bench::Levels(levels) => {
                 try_levels::<Blocks>(alloc, levels, report)?;
                 // At each item it reads the rest of the line, so its time grows with the square of their number.
-                try_levels::<Plain>(alloc, levels / 4, report)
+                try_levels::<Plain>(alloc, levels / 4, report)?;
+                try_inline_levels(alloc, levels, report)
             }
             Bench::Agree(most) => try_agree::<Blocks, Plain>(alloc, most, report),
             Bench::Nasty(nasty) => nasty.perform::<Blocks, Plain>(alloc, report),
+            Bench::Inlines(inlines) => inlines.perform(alloc, report),
         }
     }
 }
@@ -96,7 +107,8 @@ fn main(rt: HostRuntime) -> io::Result<()> {
     if asked.is_none() && !args.is_empty() {
         return println!(rt;
             "references; blocks or plain, and rows, short LENGTH, or random SEED COUNT; levels COUNT; agree LENGTH; \
-             or nasty, and letters MOST, fragments MOST, or random, alerts or flags with SEED COUNT"
+             nasty, and letters MOST, fragments MOST, or random, alerts or flags with SEED COUNT; or inlines, and \
+             letters MOST, or random SEED COUNT"
         );
     }
     for bench in Bench::ALL {

@@ -1,8 +1,8 @@
 // The program `test_library`: it makes one call of the library between two requests for memory of known sizes, so that
 // a test can refuse the requests of that call alone (`scripts/refuse_memory.sh`). Its argument names the call:
 //
-//     parse, parse_with, parts, outline, outline_part
-//                                   it prints the outline of the text
+//     parse, parse_with, inlines, parts, outline, outline_part
+//                                   it prints the outline of the text; `inlines` is `parse_with` with that layer
 //     quote, item, footnote         it prints the text in that container
 //     run                           it prints what `printing::run_blocks::run` prints of its standard input
 //     states                        the states that take no memory, of those that can be called on their own;
@@ -12,8 +12,9 @@
 //
 // Tests of the library and of the programs that no row can have: runs over inputs and outputs that fail or that signals
 // interrupt, arguments of a system, texts and outlines by parts, the plain program on many containers, what the layer of
-// references marks, what a layer learns of a text part, which delimiter runs are matched, and the spans of inline
-// content. A crate with tests is proved twice, so they are here and not beside what they test.
+// references marks, what a layer learns of a text part, which delimiter runs are matched, what is found in the text of
+// a part, and what the inline layer reads of documents. A crate with tests is proved twice, so they are here and not
+// beside what they test.
 #![tactic(auto)]
 
 ghost use Rattle.markdown_blocks.specs.Parsed.{IsSmall, IsWithoutMdx};
@@ -21,7 +22,11 @@ ghost use Rattle.markdown_blocks.specs.Parsed.{IsSmall, IsWithoutMdx};
 #[cfg(test)]
 mod attention;
 #[cfg(test)]
+mod content;
+#[cfg(test)]
 mod deep;
+#[cfg(test)]
+mod layer;
 #[cfg(test)]
 mod marks;
 #[cfg(test)]
@@ -34,8 +39,6 @@ mod read_parts;
 mod runs;
 #[cfg(test)]
 mod signals;
-#[cfg(test)]
-mod spans;
 mod states;
 #[cfg(test)]
 mod streams;
@@ -48,7 +51,9 @@ use markdown_blocks::event::Event;
 use markdown_blocks::message::Message;
 use markdown_blocks::outline::{outline, outline_part};
 use markdown_blocks::parser::{ParseState, Parts, parse, parse_with};
+use markdown_blocks::seam::Inline;
 use markdown_blocks::wrap::{footnote, item, quote};
+use markdown_inlines::Inlines;
 use md_program::body::{Body, MOST, Outlined};
 use md_program::print::print;
 use md_program::system::arguments;
@@ -63,6 +68,11 @@ use std::process::ExitCode;
 /// reference over two lines.
 const TEXT: &str =
     "> [a\n> b]: c\n\n- x | y\n  --|--\n  1 | 2\n\n# h\n\ni\n=\n\n[^f]: g\n\n[A\nB] j";
+
+/// A text with each inline construct of GitHub, in an item, a cell and a title.
+const MARKED: &str =
+    "- [x] *a **b*** ~~c~~ `d` <ab:c> <a@b.c> <b c> \\* &amp; www.a.co a@b.co  \n  [e *f*](<g> 'h\\*') ![i](j)\\\n  \
+    [k][l] [^m] [n\n\no|\\|p\n-|-\n\n[L]: q 'r&lt;'\n\n[^m]: s";
 
 /// A text of several parts: its byte order mark, two that end after a paragraph, and a last one.
 const PARTED: &str = "\u{feff}[k]: l\n\nm\n\n> n\n\no\n\n[^f]: g\n\np";
@@ -103,12 +113,17 @@ fn parsed(alloc: Global, text: &str, options: &ParseOptions) -> Result<String, M
 }
 
 /// The same with an inline layer.
-fn parsed_with(alloc: Global, text: &str, options: &ParseOptions) -> Result<String, Message>
+fn parsed_with(
+    alloc: Global,
+    layer: &impl Inline,
+    text: &str,
+    options: &ParseOptions,
+) -> Result<String, Message>
     requires size { IsSmall text.now }
     requires built { IsWithoutMdx options.now }
 {
     let _before = mark(alloc, BEFORE)?;
-    let parsed = parse_with(alloc, &References, text, options);
+    let parsed = parse_with(alloc, layer, text, options);
     let _after = mark(alloc, AFTER)?;
     let (events, state) = parsed?;
     printed(alloc, &events, state)
@@ -233,14 +248,19 @@ fn in_footnote(alloc: Global, text: &str, options: &ParseOptions) -> Result<Stri
 
 /// What is printed of a call, or nothing of a word that is none.
 fn answer(alloc: Global, word: &str) -> Result<String, Message> {
-    let text = if word == "parts" { PARTED } else { TEXT };
+    let text = match word {
+        "parts" => PARTED,
+        "inlines" => MARKED,
+        _ => TEXT,
+    };
     if text.len() > MOST {
         return Err(Message);
     }
     let options = Blocks::built(ParseOptions::GFM);
     match word {
         "parse" => parsed(alloc, text, &options),
-        "parse_with" => parsed_with(alloc, text, &options),
+        "parse_with" => parsed_with(alloc, &References, text, &options),
+        "inlines" => parsed_with(alloc, &Inlines::GFM, text, &options),
         "parts" => parsed_by_parts(alloc, text, &options),
         "outline" => outlined(alloc, text, &options),
         "outline_part" => outlined_part(alloc, text, &options),

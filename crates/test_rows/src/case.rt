@@ -75,20 +75,18 @@ pub(crate) fn constructs_of(set: &str) -> Option<Constructs> {
 /// The output that a row's outline represents: an empty line goes before the labels, and where they are left out there
 /// are none.
 fn output_of(alloc: Global, outline: &str) -> Result<String, AllocError> {
-    let mut output = String::new(alloc);
-    let mut has_labels = false;
-    for line in outline.lines() {
-        if line.starts_with("definitions ") {
-            has_labels = true;
-            output.push('\n')?;
-        }
-        output.push_str(unescaped(alloc, line)?.as_str())?;
-        output.push('\n')?;
-    }
-    if !has_labels {
-        output.push_str("\ndefinitions 0\nfootnotes 0\n")?;
-    }
-    Ok(output)
+    let (blocks, labels) = outline
+        .split_once("definitions ")
+        .unwrap_or((outline, "0\nfootnotes 0"));
+    let blocks = blocks.trim_end_matches('\n');
+    let end = if blocks.is_empty() { "" } else { "\n" };
+    let written = format!(in alloc;
+        "{}{}\ndefinitions {}\n",
+        blocks,
+        end,
+        labels.trim_end_matches('\n')
+    )?;
+    unescaped(alloc, written.as_str())
 }
 
 /// The text that is written between quotes, with the escapes of Rust's strings.
@@ -109,35 +107,36 @@ enum Escape {
     Number(u32),
 }
 
+/// What a character is for the text, and where the reading of an escape is after it.
+fn taken(escape: Escape, c: char) -> (Option<char>, Escape) {
+    match escape {
+        Escape::Outside if c == '\\' => (None, Escape::Begun),
+        Escape::Outside => (Some(c), Escape::Outside),
+        Escape::Begun if c == 'u' => (None, Escape::Number(0)),
+        Escape::Begun => (Some(named_character(c)), Escape::Outside),
+        Escape::Number(_) if c == '{' => (None, Escape::Number(0)),
+        Escape::Number(number) if c == '}' => {
+            let named = char::from_u32(number).unwrap_or(char::REPLACEMENT_CHARACTER);
+            (Some(named), Escape::Outside)
+        }
+        Escape::Number(number) => {
+            let digit = c.to_digit(16).unwrap_or(0);
+            let further = number.wrapping_mul(16).wrapping_add(digit);
+            (None, Escape::Number(further))
+        }
+    }
+}
+
 /// The text that is written with the escapes of Rust's strings.
 pub(crate) fn unescaped(alloc: Global, written: &str) -> Result<String, AllocError> {
     let mut text = String::new(alloc);
     let mut escape = Escape::Outside;
     for c in written.chars() {
-        escape = match (escape, c) {
-            (Escape::Outside, '\\') => Escape::Begun,
-            (Escape::Begun, 'u') => Escape::Number(0),
-            (Escape::Number(_), '{') => Escape::Number(0),
-            (Escape::Number(number), '}') => {
-                text.push(char::from_u32(number).unwrap_or(char::REPLACEMENT_CHARACTER))?;
-                Escape::Outside
-            }
-            (Escape::Number(number), digit) => {
-                Escape::Number(
-                    number
-                        .wrapping_mul(16)
-                        .wrapping_add(digit.to_digit(16).unwrap_or(0)),
-                )
-            }
-            (Escape::Begun, letter) => {
-                text.push(named_character(letter))?;
-                Escape::Outside
-            }
-            (Escape::Outside, other) => {
-                text.push(other)?;
-                Escape::Outside
-            }
-        };
+        let (named, after) = taken(escape, c);
+        escape = after;
+        if let Some(named) = named {
+            text.push(named)?;
+        }
     }
     Ok(text)
 }

@@ -86,25 +86,31 @@ pub fn both(a: &Constructs, b: &Constructs) -> Constructs {
     }
 }
 
-/// Whether nothing makes a word without the construct of this name. Headings of depth 1 and 2 are of two constructs,
-/// which their events show apart.
-pub fn is_of(word: Word, name: &str) -> bool {
+/// The construct without which nothing makes a word, or no name. Headings of depth 1 and 2 are of two constructs, which
+/// their events show apart.
+fn construct_of(word: Word) -> &'static str {
     match word {
-        Word::Frontmatter(_) => name == "frontmatter",
-        Word::Heading(depth) => depth > 2 && name == "heading_atx",
-        Word::Break => name == "thematic_break",
-        Word::Code => name == "code_indented",
-        Word::Fence { .. } => name == "code_fenced",
-        Word::Math { .. } => name == "math_flow",
-        Word::Html => name == "html_flow",
-        Word::Definition => name == "definition",
-        Word::Table(_) => name == "gfm_table",
-        Word::Quote => name == "block_quote",
-        Word::Alert(_) => name == "alerts" || name == "block_quote",
-        Word::List(_) => name == "list_item",
-        Word::Footnote => name == "gfm_footnote_definition",
-        _ => false,
+        Word::Frontmatter(_) => "frontmatter",
+        Word::Heading(depth) if depth > 2 => "heading_atx",
+        Word::Break => "thematic_break",
+        Word::Code => "code_indented",
+        Word::Fence { .. } => "code_fenced",
+        Word::Math { .. } => "math_flow",
+        Word::Html => "html_flow",
+        Word::Definition => "definition",
+        Word::Table(_) => "gfm_table",
+        Word::Quote => "block_quote",
+        Word::Alert(_) => "alerts",
+        Word::List(_) => "list_item",
+        Word::Footnote => "gfm_footnote_definition",
+        _ => "",
     }
+}
+
+/// Whether nothing makes a word without the construct of this name: an alert is a quote, too.
+pub fn is_of(word: Word, name: &str) -> bool {
+    let own = construct_of(word);
+    own == name || own == "alerts" && name == "block_quote"
 }
 
 /// Rows on footnote definitions and frontmatter, and on all constructs at once.

@@ -1,6 +1,6 @@
 // A row of events, read.
 
-use crate::case::{CaseError, constructs_of, unescaped, unquoted};
+use crate::case::{CaseError, constructs_of, unquoted};
 use md_engine::configuration::Constructs;
 use std::alloc::Global;
 
@@ -36,39 +36,31 @@ impl<'a> EventCase<'a> {
 }
 
 /// A part of a list: how many parts it is in, its name, and of a piece what it takes.
-#[derive(Drop)]
+#[derive(Clone, Copy)]
 pub struct Part<'a> {
     pub depth: usize,
     pub name: &'a str,
-    /// What is between quotes.
-    pub bytes: Option<String>,
+    /// What is between quotes, as it is written.
+    pub bytes: &'a str,
     /// How many columns of the tab after these bytes it takes too.
     pub columns: usize,
 }
 
 impl<'a> Part<'a> {
     /// Reads a line of the parts of a row.
-    pub fn read(alloc: Global, line: &'a str) -> Result<Part<'a>, CaseError> {
+    pub fn read(line: &'a str) -> Option<Part<'a>> {
         let inner = line.trim_start_matches(' ');
         let depth = line.len().saturating_sub(inner.len()) / 2;
-        let Some((name, taken)) = inner.split_once(' ') else {
-            return Ok(Part {
-                depth,
-                name: inner,
-                bytes: None,
-                columns: 0,
-            });
-        };
-        let (quoted, columns) = taken.rsplit_once('"').ok_or(CaseError::Form)?;
-        let written = quoted.strip_prefix('"').ok_or(CaseError::Form)?;
-        let columns = match columns.trim_start_matches(' ') {
+        let (name, taken) = inner.split_once(" \"").unwrap_or((inner, "\" 0"));
+        let (bytes, number) = taken.rsplit_once('"')?;
+        let columns = match number.trim_start_matches(' ') {
             "" => 0,
-            number => number.parse().ok().ok_or(CaseError::Form)?,
+            number => number.parse().ok()?,
         };
-        Ok(Part {
+        Some(Part {
             depth,
             name,
-            bytes: Some(unescaped(alloc, written)?),
+            bytes,
             columns,
         })
     }

@@ -19,6 +19,7 @@
 // tab is the next piece's. Pieces lie side by side from the first byte to the last, so each event's point follows.
 #![tactic(auto)]
 
+pub mod alert_blocks;
 pub mod alerts;
 pub mod breaks;
 pub mod case;
@@ -28,6 +29,7 @@ pub mod definition_parts;
 pub mod definitions;
 pub mod event_case;
 pub mod events;
+pub mod fences;
 pub mod headings;
 pub mod html;
 pub mod html_tags;
@@ -40,23 +42,24 @@ pub mod table_parts;
 pub mod tables;
 pub mod tabs;
 pub mod underlines;
-pub mod wrap;
 pub mod wraps;
 
 /// The rows of all modules.
-pub fn all() -> [&'static str; 17] {
+pub fn all() -> [&'static str; 19] {
     [
         lines::rows(),
         breaks::rows(),
         headings::rows(),
         underlines::rows(),
         code::rows(),
+        fences::rows(),
         html::rows(),
         html_tags::rows(),
         definitions::rows(),
         definition_parts::rows(),
         quotes::rows(),
         alerts::rows(),
+        alert_blocks::rows(),
         items::rows(),
         lists::rows(),
         tables::rows(),

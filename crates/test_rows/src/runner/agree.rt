@@ -11,90 +11,134 @@ use std::alloc::Global;
 /// The most letters of a text where no argument says it.
 pub const MOST: usize = 6;
 
-/// Letters that begin quotes, headings and breaks, or lines.
-const LEAVES: [&str; 6] = ["a", ">", "#", "*", " ", "\n"];
+/// Letters, so that texts of them are tried.
+struct Alphabet {
+    letters: &'static [&'static str],
+    /// How many fewer of them than of others a text has, since there are many.
+    fewer: usize,
+    /// Whether alerts are on.
+    alerts: bool,
+}
 
-/// Letters that begin items, quotes and breaks, or lines.
-const ITEMS: [&str; 7] = ["a", "-", "1", ".", ">", " ", "\n"];
-
-/// Letters that indent code and items, and cut tabs, those that begin what code is in, and lines.
-const CODE: [&str; 7] = ["a", "    ", "  ", "\t", ">", "-", "\n"];
-
-/// Letters that begin and end fences, those that begin what they are in, and lines.
-const FENCES: [&str; 7] = ["a", "```", "~~~", ">", "-", " ", "\n"];
-
-/// Letters of which fences of several sizes are made, in quotes too, with whitespace that a fence may cut.
-const SIZES: [&str; 6] = ["```", "`", "a", ">", "\t", "\n"];
-
-/// Letters that begin and end math, alone and in quotes.
-const MATH: [&str; 6] = ["a", "$$", "$", ">", " ", "\n"];
-
-/// Letters of which underlines, items and breaks are made, text that they may be after, quotes, and lines.
-const UNDERLINES: [&str; 6] = ["a", "=", "-", ">", " ", "\n"];
-
-/// Letters of which definitions and underlines are made, quotes, and lines.
-const DEFINITIONS: [&str; 7] = ["[", "]", ":", "a", "=", "\n", ">"];
-
-/// Letters of which rows and delimiter rows are made, quotes, and lines.
-const TABLES: [&str; 7] = ["a", "|", "-", ":", ">", " ", "\n"];
-
-/// Letters that are after a label: marks of destinations and titles, whitespace, and lines.
-const PARTS: [&str; 9] = ["[a]:", "\"", "\\", "(", ")", "<", ">", " ", "\n"];
-
-/// Letters of which tags and comments are made, and lines.
-const HTML: [&str; 8] = ["<", "/", "a", "!", "-", ">", " ", "\n"];
-
-/// Begins and ends of the kinds of HTML and parts of a tag, quotes, and lines.
-const KINDS: [&str; 13] = [
-    "<pre>",
-    "</pre>",
-    "<!--",
-    "-->",
-    "<?",
-    "?>",
-    "<![CDATA[",
-    "]]>",
-    "<div",
-    "<a ",
-    "b=\"",
-    "> ",
-    "\n",
+/// All alphabets.
+const ALPHABETS: [Alphabet; 14] = [
+    // Letters that begin quotes, headings and breaks, or lines.
+    Alphabet {
+        letters: &["a", ">", "#", "*", " ", "\n"],
+        fewer: 0,
+        alerts: false,
+    },
+    // Letters that begin items, quotes and breaks, or lines.
+    Alphabet {
+        letters: &["a", "-", "1", ".", ">", " ", "\n"],
+        fewer: 0,
+        alerts: false,
+    },
+    // Letters that indent code and items, and cut tabs, those that begin what code is in, and lines.
+    Alphabet {
+        letters: &["a", "    ", "  ", "\t", ">", "-", "\n"],
+        fewer: 0,
+        alerts: false,
+    },
+    // Letters that begin and end fences, those that begin what they are in, and lines.
+    Alphabet {
+        letters: &["a", "```", "~~~", ">", "-", " ", "\n"],
+        fewer: 0,
+        alerts: false,
+    },
+    // Letters of which fences of several sizes are made, in quotes too, with whitespace that a fence may cut.
+    Alphabet {
+        letters: &["```", "`", "a", ">", "\t", "\n"],
+        fewer: 0,
+        alerts: false,
+    },
+    // Letters that begin and end math, alone and in quotes.
+    Alphabet {
+        letters: &["a", "$$", "$", ">", " ", "\n"],
+        fewer: 0,
+        alerts: false,
+    },
+    // Letters of which underlines, items and breaks are made, text that they may be after, quotes, and lines.
+    Alphabet {
+        letters: &["a", "=", "-", ">", " ", "\n"],
+        fewer: 0,
+        alerts: false,
+    },
+    // Letters of which definitions and underlines are made, quotes, and lines.
+    Alphabet {
+        letters: &["[", "]", ":", "a", "=", "\n", ">"],
+        fewer: 0,
+        alerts: false,
+    },
+    // Letters of which rows and delimiter rows are made, quotes, and lines.
+    Alphabet {
+        letters: &["a", "|", "-", ":", ">", " ", "\n"],
+        fewer: 0,
+        alerts: false,
+    },
+    // Letters of which alerts are made, in quotes, in items and beside text.
+    Alphabet {
+        letters: &[">", " ", "\n", "[!NOTE]", "[!tip]", "a", "- ", "\t"],
+        fewer: 1,
+        alerts: true,
+    },
+    // Parts of the marker of an alert, quotes, whitespace, and lines.
+    Alphabet {
+        letters: &[">", "[!", "Ti", "p", "]", " ", "\t", "\n"],
+        fewer: 1,
+        alerts: true,
+    },
+    // Letters of which tags and comments are made, and lines.
+    Alphabet {
+        letters: &["<", "/", "a", "!", "-", ">", " ", "\n"],
+        fewer: 1,
+        alerts: false,
+    },
+    // Letters that are after a label: marks of destinations and titles, whitespace, and lines.
+    Alphabet {
+        letters: &["[a]:", "\"", "\\", "(", ")", "<", ">", " ", "\n"],
+        fewer: 1,
+        alerts: false,
+    },
+    // Begins and ends of the kinds of HTML and parts of a tag, quotes, and lines.
+    Alphabet {
+        letters: &[
+            "<pre>",
+            "</pre>",
+            "<!--",
+            "-->",
+            "<?",
+            "?>",
+            "<![CDATA[",
+            "]]>",
+            "<div",
+            "<a ",
+            "b=\"",
+            "> ",
+            "\n",
+        ],
+        fewer: 2,
+        alerts: false,
+    },
 ];
 
-/// Letters of which alerts are made, in quotes, in items and beside text.
-const ALERTS: [&str; 8] = [">", " ", "\n", "[!NOTE]", "[!tip]", "a", "- ", "\t"];
-
-/// Parts of the marker of an alert, quotes, whitespace, and lines.
-const MARKERS: [&str; 8] = [">", "[!", "Ti", "p", "]", " ", "\t", "\n"];
-
 /// Tries two bodies on all texts of at most so many letters of each alphabet, with all constructs of the first: alerts
-/// are on with the letters that are for them. The texts of the last five alphabets, of which there are many, are one
-/// letter shorter, and those of the last one are two.
+/// are on with the letters that are for them.
 pub fn try_agree<A: Body, B: Body>(
     alloc: Global,
     most: usize,
     report: &mut Report,
 ) -> Result<(), CaseError> {
-    let all = Constructs::ALL;
-    let less = most.saturating_sub(1);
-    for letters in [
-        LEAVES.as_slice(),
-        ITEMS.as_slice(),
-        CODE.as_slice(),
-        FENCES.as_slice(),
-        SIZES.as_slice(),
-        MATH.as_slice(),
-        UNDERLINES.as_slice(),
-        DEFINITIONS.as_slice(),
-        TABLES.as_slice(),
-    ] {
-        try_letters::<A, B>(alloc, letters, most, &all, report)?;
+    for alphabet in &ALPHABETS {
+        let set = if alphabet.alerts {
+            &Constructs::ALERTS
+        } else {
+            &Constructs::ALL
+        };
+        let most = most.saturating_sub(alphabet.fewer);
+        try_letters::<A, B>(alloc, alphabet.letters, most, set, report)?;
     }
-    try_letters::<A, B>(alloc, &ALERTS, less, &Constructs::ALERTS, report)?;
-    try_letters::<A, B>(alloc, &MARKERS, less, &Constructs::ALERTS, report)?;
-    try_letters::<A, B>(alloc, &HTML, less, &all, report)?;
-    try_letters::<A, B>(alloc, &PARTS, less, &all, report)?;
-    try_letters::<A, B>(alloc, &KINDS, most.saturating_sub(2), &all, report)
+    Ok(())
 }
 
 /// Tries two bodies on all texts of at most so many of these letters, with the constructs of a set that the first has.

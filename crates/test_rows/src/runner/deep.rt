@@ -7,7 +7,7 @@ use crate::runner::rows::{options_of, printed};
 use crate::runner::texts::repeated;
 use md_engine::configuration::Constructs;
 use md_program::body::{Body, MOST};
-use std::alloc::Global;
+use std::alloc::{AllocError, Global};
 
 /// Tries a body that has quotes and items on 1,000 quotes in one another, and on 200 lists.
 pub fn try_depths<B: Body>(alloc: Global, report: &mut Report) -> Result<(), CaseError> {
@@ -23,25 +23,19 @@ fn try_depth<B: Body>(
     times: usize,
     words: &[&str],
 ) -> Result<(), CaseError> {
-    let mut text = repeated(alloc, marker, times)?;
-    text.push('a')?;
+    let text = nested(alloc, marker, times)?;
     let mut wanted = String::new(alloc);
     let mut indent = String::new(alloc);
     for _ in 0..times {
         for word in words {
-            wanted.push_str(indent.as_str())?;
-            wanted.push_str(word)?;
+            write!(wanted, "{indent}{word}")?;
             indent.push_str("  ")?;
         }
     }
-    for part in [
-        indent.as_str(),
-        "paragraph\n  ",
-        indent.as_str(),
-        "| a\n\ndefinitions 0\nfootnotes 0\n",
-    ] {
-        wanted.push_str(part)?;
-    }
+    write!(
+        wanted,
+        "{indent}paragraph\n  {indent}| a\n\ndefinitions 0\nfootnotes 0\n"
+    )?;
     let got = printed::<B>(alloc, text.as_str(), &Constructs::ALL)?;
     report.add("deep nesting", text.as_str(), wanted.as_str(), got.as_str())?;
     try_events::<B>(alloc, text.as_str(), &Constructs::ALL, report)
@@ -58,21 +52,35 @@ pub fn try_levels<B: Body>(
     levels: usize,
     report: &mut Report,
 ) -> Result<(), CaseError> {
-    for (marker, depth, lines) in MARKERS {
-        let mut text = repeated(alloc, marker, levels)?;
-        text.push('a')?;
-        let mut wanted = String::new(alloc);
-        write!(
-            wanted,
-            "{} lines, the last of depth {}",
-            levels.wrapping_mul(lines).wrapping_add(2),
-            levels.wrapping_mul(depth).wrapping_add(1)
-        )?;
-        let got = counted::<B>(alloc, text.as_str())?;
-        report.add("levels", marker, wanted.as_str(), got.as_str())?;
-        try_events::<B>(alloc, text.as_str(), &Constructs::ALL, report)?;
+    for (marker, depth, lines) in &MARKERS {
+        let text = nested(alloc, marker, levels)?;
+        let lines = levels.wrapping_mul(*lines).wrapping_add(2);
+        let depth = levels.wrapping_mul(*depth).wrapping_add(1);
+        try_level::<B>(alloc, marker, text.as_str(), lines, depth, report)?;
     }
     Ok(())
+}
+
+/// Tries a body on such a text, whose outline has so many lines, and the last of them this depth.
+fn try_level<B: Body>(
+    alloc: Global,
+    marker: &str,
+    text: &str,
+    lines: usize,
+    depth: usize,
+    report: &mut Report,
+) -> Result<(), CaseError> {
+    let wanted = shown(alloc, lines, depth)?;
+    let got = counted::<B>(alloc, text)?;
+    report.add("levels", marker, wanted.as_str(), got.as_str())?;
+    try_events::<B>(alloc, text, &Constructs::ALL, report)
+}
+
+/// Markers so many times before an `a`.
+fn nested(alloc: Global, marker: &str, times: usize) -> Result<String, AllocError> {
+    let mut text = repeated(alloc, marker, times)?;
+    text.push('a')?;
+    Ok(text)
 }
 
 /// How many lines the outline of a text has, and how deep the last is.
@@ -84,13 +92,14 @@ fn counted<B: Body>(alloc: Global, text: &str) -> Result<String, CaseError> {
     let Ok(outlined) = B::outlined(alloc, text, &options) else {
         return Err(CaseError::Memory);
     };
-    let mut counted = String::new(alloc);
-    let depth = outlined.lines.last().map_or(0, |line| line.depth);
-    write!(
-        counted,
-        "{} lines, the last of depth {}",
-        outlined.lines.len(),
-        depth
-    )?;
-    Ok(counted)
+    let depth = match outlined.lines.last() {
+        Some(line) => line.depth,
+        None => 0,
+    };
+    Ok(shown(alloc, outlined.lines.len(), depth)?)
+}
+
+/// So many lines and such a depth, in words.
+fn shown(alloc: Global, lines: usize, depth: usize) -> Result<String, AllocError> {
+    format!(in alloc; "{lines} lines, the last of depth {depth}")
 }

@@ -1,6 +1,6 @@
 // Tries a body on rows of events: the whole list, as the program `events` prints it, with all points.
 
-use crate::case::CaseError;
+use crate::case::{CaseError, unescaped};
 use crate::constructs::both;
 use crate::event_case::{EventCase, Part};
 use crate::runner::events::{Place, events_of};
@@ -31,26 +31,31 @@ impl<'a> List<'a> {
         }
     }
 
+    /// Ends the innermost part.
+    fn close_one(&mut self) -> Result<(), AllocError> {
+        match self.open.pop() {
+            Some(name) => {
+                let point = self.point();
+                push_line(&mut self.written, self.open.len(), "- ", name, point)
+            }
+            None => Ok(()),
+        }
+    }
+
     /// Ends parts until so many are open.
     fn close(&mut self, depth: usize) -> Result<(), AllocError> {
         for _ in depth..self.open.len() {
-            if let Some(name) = self.open.pop() {
-                let point = self.point();
-                push_line(&mut self.written, self.open.len(), "- ", name, point)?;
-            }
+            self.close_one()?;
         }
         Ok(())
     }
 
     /// Takes one more part. It answers whether the bytes of a piece are those of the text.
-    fn add(&mut self, text: &[u8], part: &Part<'a>) -> Result<bool, AllocError> {
+    fn add(&mut self, text: &[u8], part: Part<'a>, bytes: &str) -> Result<bool, AllocError> {
         self.close(part.depth)?;
         let point = self.point();
         push_line(&mut self.written, self.open.len(), "+ ", part.name, point)?;
         self.open.push(part.name)?;
-        let Some(bytes) = &part.bytes else {
-            return Ok(true);
-        };
         for byte in bytes.bytes() {
             if text.get(self.place.index).copied() != Some(byte) {
                 return Ok(false);
@@ -73,8 +78,9 @@ pub fn wanted(alloc: Global, case: &EventCase<'_>) -> Result<String, CaseError> 
         vs: 0,
     };
     for line in case.parts.lines() {
-        let part = Part::read(alloc, line)?;
-        if part.depth > list.open.len() || !list.add(text, &part)? {
+        let part = Part::read(line).ok_or(CaseError::Form)?;
+        let bytes = unescaped(alloc, part.bytes)?;
+        if part.depth > list.open.len() || !list.add(text, part, bytes.as_str())? {
             return Err(CaseError::Form);
         }
     }

@@ -33,11 +33,7 @@ const ALERTS: [(&str, &str); 5] = [
 
 /// The first line of a text, without its ending.
 fn first_line(text: &str) -> &str {
-    let count = text
-        .bytes()
-        .take_while(|byte| *byte != b'\n' && *byte != b'\r')
-        .count();
-    text.get(..count).unwrap_or("")
+    text.split(['\n', '\r']).next().unwrap_or("")
 }
 
 /// The lines of a text after the first one.
@@ -52,15 +48,13 @@ fn after_first_line(text: &str) -> &str {
 /// What is printed of an alert, if the first line of a plain text is its marker, after a small indent.
 fn alert_of(text: &str, constructs: &Constructs) -> Option<&'static str> {
     let line = first_line(text);
-    let indent = line.bytes().take_while(|byte| *byte == b' ').count();
+    let rest = line.trim_start_matches(' ');
+    let indent = line.len().saturating_sub(rest.len());
     if !constructs.alerts || indent > 3 && constructs.code_indented {
         return None;
     }
-    let rest = line.get(indent..).unwrap_or("");
-    for (marker, head) in ALERTS {
-        let front = rest.get(..marker.len()).unwrap_or("");
-        let following = rest.get(marker.len()..).unwrap_or("");
-        if front.eq_ignore_ascii_case(marker) && following.bytes().all(|byte| byte == b' ') {
+    for (marker, head) in &ALERTS {
+        if marker.eq_ignore_ascii_case(rest.trim_end_matches(' ')) {
             return Some(head);
         }
     }
@@ -69,35 +63,22 @@ fn alert_of(text: &str, constructs: &Constructs) -> Option<&'static str> {
 
 /// What is printed for a text, with the outline below the lines `heads`.
 fn below(alloc: Global, output: &str, heads: &str, indent: &str) -> Result<String, AllocError> {
+    let (outline, labels) = output.split_once("\ndefinitions ").unwrap_or((output, ""));
     let mut deeper = String::from_str(alloc, heads)?;
-    let mut in_outline = true;
-    for line in output.lines() {
-        in_outline = in_outline && !line.is_empty();
-        if in_outline {
-            deeper.push_str(indent)?;
-        }
-        deeper.push_str(line)?;
-        deeper.push('\n')?;
+    for line in outline.lines() {
+        write!(deeper, "{indent}{line}\n")?;
     }
+    write!(deeper, "\ndefinitions {labels}")?;
     Ok(deeper)
 }
 
 /// What is printed, with the label `x` before those of the other footnote definitions.
 fn with_footnote(alloc: Global, output: &str) -> Result<String, AllocError> {
-    let mut all = String::new(alloc);
-    for line in output.lines() {
-        match line.strip_prefix("footnotes ") {
-            Some(count) => {
-                let others: u64 = count.parse().unwrap_or(0);
-                write!(all, "footnotes {}\n= x\n", others.saturating_add(1))?;
-            }
-            None => {
-                all.push_str(line)?;
-                all.push('\n')?;
-            }
-        }
-    }
-    Ok(all)
+    let (front, footnotes) = output.split_once("\nfootnotes ").unwrap_or((output, ""));
+    let (count, labels) = footnotes.split_once('\n').unwrap_or((footnotes, ""));
+    let others: u64 = count.parse().unwrap_or(0);
+    let all = others.saturating_add(1);
+    format!(in alloc; "{front}\nfootnotes {all}\n= x\n{labels}")
 }
 
 /// Tries whether a text in a quote gives this outline below this head. The events of the quote are tried too.

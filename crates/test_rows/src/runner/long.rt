@@ -59,9 +59,8 @@ const LABELS: [Long; 6] = [
 /// Tries a body that has definitions and footnotes on long labels.
 pub fn try_labels<B: Body>(alloc: Global, report: &mut Report) -> Result<(), CaseError> {
     for long in &LABELS {
-        let mut text = repeated(alloc, "a", long.times)?;
-        text.insert_str(0, long.open)?;
-        text.push_str(long.close)?;
+        let middle = repeated(alloc, "a", long.times)?;
+        let text = format!(in alloc; "{}{}{}", long.open, middle, long.close)?;
         let got = printed::<B>(alloc, text.as_str(), &Constructs::ALL)?;
         let front = if got.as_str().starts_with(long.begin) {
             long.begin

@@ -95,7 +95,7 @@ const ALERTS: [&str; 40] = [
 const MOST_FRAGMENTS: u32 = 24;
 
 /// Texts on which two bodies are tried.
-#[derive(Clone, Copy, Debug, PartialEq, Eq)]
+#[derive(Clone, Copy)]
 pub enum Nasty {
     Letters { most: usize },
     Fragments { most: usize },
@@ -126,29 +126,30 @@ impl Nasty {
     /// What these arguments name, or `None` where they name nothing.
     pub fn asked_for(args: &[String]) -> Option<Nasty> {
         match args {
-            [word, most] if word.as_str() == "letters" => {
-                let most = most.as_str().parse().ok()?;
-                Some(Nasty::Letters { most })
-            }
-            [word, most] if word.as_str() == "fragments" => {
-                let most = most.as_str().parse().ok()?;
-                Some(Nasty::Fragments { most })
-            }
-            [word, seed, count] if word.as_str() == "random" => {
+            [word, most] => Nasty::of_most(word.as_str(), most.as_str().parse().ok()?),
+            [word, seed, count] => {
                 let seed = seed.as_str().parse().ok()?;
-                let count = count.as_str().parse().ok()?;
-                Some(Nasty::Random { seed, count })
+                Nasty::of_random(word.as_str(), seed, count.as_str().parse().ok()?)
             }
-            [word, seed, count] if word.as_str() == "alerts" => {
-                let seed = seed.as_str().parse().ok()?;
-                let count = count.as_str().parse().ok()?;
-                Some(Nasty::Alerts { seed, count })
-            }
-            [word, seed, count] if word.as_str() == "flags" => {
-                let seed = seed.as_str().parse().ok()?;
-                let count = count.as_str().parse().ok()?;
-                Some(Nasty::Flags { seed, count })
-            }
+            _ => None,
+        }
+    }
+
+    /// Texts of at most so many of something.
+    fn of_most(word: &str, most: usize) -> Option<Nasty> {
+        match word {
+            "letters" => Some(Nasty::Letters { most }),
+            "fragments" => Some(Nasty::Fragments { most }),
+            _ => None,
+        }
+    }
+
+    /// So many random texts.
+    fn of_random(word: &str, seed: u64, count: u64) -> Option<Nasty> {
+        match word {
+            "random" => Some(Nasty::Random { seed, count }),
+            "alerts" => Some(Nasty::Alerts { seed, count }),
+            "flags" => Some(Nasty::Flags { seed, count }),
             _ => None,
         }
     }

@@ -6,7 +6,7 @@ use std::alloc::{AllocError, Global};
 const LONGEST: usize = 500_000;
 
 /// A count of what was tried, and a readable list of what disagreed.
-#[derive(Debug, Drop)]
+#[derive(Drop)]
 pub struct Report {
     /// How many rows or texts were tried.
     pub tried: u64,
@@ -43,32 +43,9 @@ impl Report {
         if self.list.len().saturating_add(written) > LONGEST {
             return Ok(());
         }
-        self.part("", title)?;
-        self.quoted(text)?;
-        self.part("wanted:\n", wanted)?;
-        self.part("got:\n", got)
-    }
-
-    /// Adds a part of an entry, and ends the line.
-    fn part(&mut self, head: &str, body: &str) -> Result<(), AllocError> {
-        self.list.push_str(head)?;
-        self.list.push_str(body)?;
-        self.list.push('\n')
-    }
-
-    /// Adds a text between quotes, on one line.
-    fn quoted(&mut self, text: &str) -> Result<(), AllocError> {
-        self.list.push('"')?;
-        for c in text.chars() {
-            match c {
-                '\n' => self.list.push_str("\\n")?,
-                '\r' => self.list.push_str("\\r")?,
-                '\t' => self.list.push_str("\\t")?,
-                '\0' => self.list.push_str("\\0")?,
-                '\\' => self.list.push_str("\\\\")?,
-                other => self.list.push(other)?,
-            }
-        }
-        self.list.push_str("\"\n")
+        write!(
+            self.list,
+            "{title}\n{text:?}\nwanted:\n{wanted}\ngot:\n{got}\n"
+        )
     }
 }

@@ -14,7 +14,7 @@ pub const FEW: u32 = 7;
 /// All constructs but those for which these bits of a random word are zero.
 pub fn without_some(source: &mut Pcg32, bits: u32) -> Constructs {
     let mut constructs = Constructs::ALERTS;
-    for name in NAMES {
+    for name in &NAMES {
         if source.next_word() & bits == 0 {
             let _ = switch(&mut constructs, name, false);
         }

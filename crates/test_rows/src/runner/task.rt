@@ -19,7 +19,7 @@ use md_program::body::Body;
 use std::alloc::Global;
 
 /// Something to try.
-#[derive(Clone, Copy, Debug, PartialEq, Eq)]
+#[derive(Clone, Copy)]
 pub enum Task {
     Rows,
     Short { length: usize },

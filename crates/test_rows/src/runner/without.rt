@@ -46,9 +46,9 @@ pub fn try_without<B: Body>(
     for row in rows.split("\n\n") {
         let case = Case::read(alloc, row)?;
         let text = case.text.as_str();
-        for name in NAMES {
+        for name in &NAMES {
             try_off::<B>(alloc, text, &Constructs::ALERTS, name, report)?;
-            if name != "alerts" {
+            if *name != "alerts" {
                 try_off::<B>(alloc, text, &Constructs::ALL, name, report)?;
             }
         }

@@ -1,8 +1,7 @@
 // Puts texts into the containers that the laws of nesting are tried with, and tries that itself.
 
-use crate::case::CaseError;
+use crate::case::{CaseError, unquoted};
 use crate::runner::report::Report;
-use crate::wrap::Wrap;
 use md_engine::configuration::{Constructs, ParseOptions};
 use md_program::body::MOST;
 use md_wrap::wrap;
@@ -37,22 +36,37 @@ pub fn footnoted(alloc: Global, text: &str) -> Result<String, CaseError> {
     wrap::footnote(alloc, text, &OPTIONS).or(Err(CaseError::Memory))
 }
 
+/// The four lines of a row: a text, and what it is as a quote, as an item and as a footnote definition.
+fn lines_of(alloc: Global, row: &str) -> Result<Vec<String>, CaseError> {
+    let mut lines = Vec::new(alloc);
+    for line in row.lines() {
+        if lines.push(unquoted(alloc, line)?).is_err() {
+            return Err(CaseError::Memory);
+        }
+    }
+    Ok(lines)
+}
+
+/// Tries one row of a table of wraps.
+fn try_wrap(alloc: Global, lines: &[String], report: &mut Report) -> Result<(), CaseError> {
+    let [text, quote, item, footnote] = lines else {
+        return Err(CaseError::Form);
+    };
+    let text = text.as_str();
+    let got = quoted(alloc, text)?;
+    report.add("a quote", text, quote.as_str(), got.as_str())?;
+    let got = itemised(alloc, text)?;
+    report.add("an item", text, item.as_str(), got.as_str())?;
+    let got = footnoted(alloc, text)?;
+    report.add("a footnote", text, footnote.as_str(), got.as_str())?;
+    Ok(())
+}
+
 /// Tries this on a table of wraps.
 pub fn try_wraps(alloc: Global, rows: &str, report: &mut Report) -> Result<(), CaseError> {
     for row in rows.split("\n\n") {
-        let wrap = Wrap::read(alloc, row)?;
-        let text = wrap.text.as_str();
-        let quote = quoted(alloc, text)?;
-        report.add("a quote", text, wrap.quoted.as_str(), quote.as_str())?;
-        let item = itemised(alloc, text)?;
-        report.add("an item", text, wrap.itemised.as_str(), item.as_str())?;
-        let footnote = footnoted(alloc, text)?;
-        report.add(
-            "a footnote",
-            text,
-            wrap.footnoted.as_str(),
-            footnote.as_str(),
-        )?;
+        let lines = lines_of(alloc, row)?;
+        try_wrap(alloc, lines.as_slice(), report)?;
     }
     Ok(())
 }
