@@ -7,10 +7,10 @@ It counts the same of what calls of first states and of flow promise of the rest
 `constructs::call`, `flow::start`, `document::flow_inside` and `document::containers_after`), with what is not among the
 lines of `parse`; the same of what reading content makes of the lines of a text (`texts` of `read_texts`); of what the
 first states of text promise of a line and of the lines of a text (`line` of `construct::content::chunk_start`,
-`construct::definition::start` and `construct::paragraph::start`), with what is not among any of these; and of what a
-reader has to believe of the inline definition (`content`), with what is not among the lines of `parse`. It fails where
-there is more than the limits below, or where one of these definitions names a rule by cells, a transition or a
-value."""
+`construct::definition::start` and `construct::paragraph::start`), with what is not among any of these; of what a reader
+has to believe of the inline definition (`content`), with what is not among the lines of `parse`; and of what the inline
+layer gives for a part (`AreEvents`), with what is not among the lines of either. It fails where there is more than the
+limits below, or where one of these definitions names a rule by cells, a transition or a value."""
 import os
 import re
 import sys
@@ -31,6 +31,9 @@ MOST_OF_TEXTS = 100
 # what the inline content of a text is
 INLINES = ("Rattle.md_inlines.specs.Content", "content")
 MOST_OF_INLINES = 900
+# what the inline layer gives for a part
+LAYER = ("Rattle.markdown_inlines.specs.Layer", "AreEvents")
+MOST_OF_LAYER = 200
 # what the first states of text promise, by a behaviour
 OWN = "Rattle.markdown_blocks.specs.TextRule"
 FIRST = ((OWN, "IsChunkCall"), (OWN, "IsDefinitionCall"), (OWN, "IsParagraphCall"))
@@ -164,6 +167,10 @@ def main():
     inlines, own_inlines = lines_of(of_inlines), lines_of(of_inlines - all_of)
     print(f"{INLINES[1]}: {inlines} lines in {len({path for path, _ in of_inlines})} files, of which {own_inlines} are "
           f"not among those of {STATEMENT[1]}")
+    of_layer = unfolded(*LAYER)
+    layer, own_layer = lines_of(of_layer), lines_of(of_layer - all_of - of_inlines)
+    print(f"{LAYER[1]}: {layer} lines in {len({path for path, _ in of_layer})} files, of which {own_layer} are not among "
+          f"those of {STATEMENT[1]} and {INLINES[1]}")
     of_all = of_calls | of_texts | of_first
     of_rules = {f"{path}.{name}" for path, name in of_all if RULE.match(f"{path}.") and path != LINES}
     for name in sorted(of_rules):
@@ -172,7 +179,8 @@ def main():
     for name in sorted(of_run):
         print("believed: a definition names", name)
     sys.exit(lines > MOST or rest > MOST_ELSE or calls > MOST_OF_CALLS or new > MOST_NEW or own > MOST_OF_TEXTS
-             or own_inlines > MOST_OF_INLINES or only > MOST_OF_FIRST or bool(of_run | of_rules))
+             or own_inlines > MOST_OF_INLINES or own_layer > MOST_OF_LAYER or only > MOST_OF_FIRST
+             or bool(of_run | of_rules))
 
 
 main()

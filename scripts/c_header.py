@@ -50,7 +50,7 @@ enum {{
     HOXALGURRE_OK = 0,
     HOXALGURRE_NOT_UTF8 = 1, /* `count` bytes are UTF-8, and the next is not */
     HOXALGURRE_TOO_LONG = 2, /* more than SIZE_MAX / 8 bytes */
-    HOXALGURRE_NO_MEMORY = 3,
+    HOXALGURRE_NO_MEMORY = 3, /* some events may have been written */
     HOXALGURRE_UNKNOWN_SET = 4
 }};
 

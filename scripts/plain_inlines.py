@@ -1,8 +1,9 @@
 #!/usr/bin/env python3
 """plain_inlines.py: runs the built program `plain_inlines` on the text of each row of the inline definition (`rt ci` or
 `rt run` builds it: `out`; where PROGRAMS is set, it is in that folder). What it prints must be the forest that the row
-gives, in the printed form; it is printed here by this script, from the row. A text that is no UTF-8 it must refuse. A
-row whose text has an empty line is left out, since that ends the text of the program."""
+gives, in the printed form; it is printed here by this script, from the row. A text that is no UTF-8 it must refuse. No
+text has an empty line, which would end the text of the program. Rows of what is read of a part give no forest, and are
+left out."""
 import concurrent.futures
 import glob
 import os
@@ -28,13 +29,12 @@ GIVEN = {
     "without_single": (["all", "alerts"], ["=bar", "^a", "~", "$"]),
     "with_footnotes": (["all", "alerts"], ["^b", "^a b"]),
 }
-# rows of what is read of a part, which give no forest
+# What is read of a part, which is no forest.
 OF_PARTS = {"text_of", "string_of"}
 
 
 def rows():
-    """Each row that gives a forest: its name, what it reads its text with, its text and its forest. A text has no empty
-    line."""
+    """Each row that gives a forest: its name, what it reads its text with, its text and its forest."""
     library = antt.Library(CRATES)
     for file in sorted(glob.glob(os.path.join(CRATES, "md_inlines", "proofs", "*Rows.antt"))):
         path = "Rattle." + os.path.relpath(file, CRATES)[:-len(".antt")].replace(os.sep, ".")
@@ -45,9 +45,8 @@ def rows():
             if reading[1][1] not in OF_PARTS:
                 text, = (bytes(antt.value_of(given, {}, module)) for given in reading[2])
                 forest = antt.value_of(antt.Parser(right).expression(), {}, module)
-                if b"\n\n" not in text:
-                    short = f"{os.path.basename(file)[:-len('Rows.antt')]} {name[len('row_'):]}"
-                    yield short, reading[1][1], text, forest
+                short = f"{os.path.basename(file)[:-len('Rows.antt')]} {name[len('row_'):]}"
+                yield short, reading[1][1], text, forest
 
 
 def printed(forest, text, depth=0):
@@ -77,7 +76,7 @@ def fault(row):
     """What is wrong with what is printed of a row, under each set that has its constructs."""
     name, reading, text, forest = row
     wanted, left = printed(forest, text)
-    if left or text[-1:] == b"\n":
+    if left or b"\n\n" in text + b"\n":
         return f"{name}: no text of the program, or its forest is not over all of it"
     ended = (0, wanted, b"") if is_utf8(text) else (2, b"", b"plain_inlines: not UTF-8\n")
     sets, lines = GIVEN[reading]

@@ -4,8 +4,9 @@
 # refused rises until a run meets no refusal (`scripts/refuse.c`).
 #
 # - Of `test_library`, those of one call of the library: `parse`, `parse_with`, `outline`, `outline_part`, `wrap::quote`,
-#   `wrap::item`, `wrap::footnote`, and the `run` of `blocks`, all on one text, and those of `Parts` on another. What the
-#   program asks for before and after the call is counted apart. A refused run ends with status 3 and prints nothing, and
+#   `wrap::item`, `wrap::footnote`, and the `run` of `blocks`, all on one text, those of `Parts` on another, and those of
+#   `parse_with` with the inline layer on one with each inline construct of GitHub. What the program asks for before and
+#   after the call is counted apart. A refused run ends with status 3 and prints nothing, and
 #   the last run prints what is given here. The states that take no memory answer while each request is refused.
 # - Of `blocks`, `events`, `plain_blocks`, `plain_inlines` and `examples_references`, those of the whole program: on the
 #   texts of their stored runs, and the first two with the argument `alerts` on each begin of a text with a byte order
@@ -98,10 +99,41 @@ footnotes 1
 = f
 """
 
+# The outline of the text with inline constructs.
+MARKED_OUTLINE = b"""list -
+  item
+    paragraph
+      | [x] *a **b*** ~~c~~ `d` <ab:c> <a@b.c> <b c> \\* &amp; www.a.co a@b.co\x20\x20
+      | [e *f*](<g> 'h\\*') ![i](j)\\
+      | [k][l] [^m] [n
+table 2
+  row
+    cell | o
+    cell | \\|p
+  delimiter | -|-
+definition
+  label | L
+  destination | q
+  title | r&lt;
+footnote
+  label | m
+  paragraph
+    | s
+
+definitions 1
+= l
+footnotes 1
+= m
+"""
+
+# The refused runs of the call with the inline layer that there are at least.
+LEAST_INLINES = 100
+
 # What each call prints, and what it says where it is refused.
 CALLS = {
     "parse": (TEXT_OUTLINE, b""),
     "parse_with": (TEXT_OUTLINE, b""),
+    "inlines": (MARKED_OUTLINE, b""),
     "parts": (PARTS_OUTLINE, b""),
     "outline": (TEXT_OUTLINE, b""),
     "outline_part": (TEXT_OUTLINE, b""),
@@ -276,7 +308,7 @@ for name, task in done:
     runs[name] += count
     if wrong:
         sys.exit(wrong)
-for name, least in {**dict.fromkeys(CALLS, 1), **PROGRAMS, "hoxalgurre": LEAST_REPORTS}.items():
+for name, least in {**dict.fromkeys(CALLS, 1), "inlines": LEAST_INLINES, **PROGRAMS, "hoxalgurre": LEAST_REPORTS}.items():
     print(f"refused memory: {name}, {runs[name]} runs refused, none of which went on")
     if runs[name] < least:
         sys.exit(f"not at least {least}")

@@ -7,9 +7,13 @@ printed:
     cost      instructions and memory by byte of text
     growth    how many times the instructions twice the text takes
     times     seconds from the start of the process to its end, each the best of some runs
+    beside    processor time and memory of `blocks` and of the block layer of cmark on 10 MB of text, run in turn
 
 Instructions are counted by valgrind (callgrind), so they are the same on each run of the same program; where it is
 missing, the times are printed alone. Memory is the most that is resident.
+
+`beside` builds a program over libcmark that reads blocks and no inlines and prints an outline, where a C compiler and
+the archive of libcmark are installed (`libcmark-dev`). The text is mixed text again and again, or that of `--text`.
 
 `cost` counts cmark, cmark-gfm and md2html (md4c) beside it where they are installed: whole programs, which read inlines
 too and print them. `--other COMMAND` counts another program, such as a block layer of one of these that prints an outline.
@@ -26,6 +30,7 @@ import tempfile
 import time
 from collections.abc import Callable
 from pathlib import Path
+from typing import NamedTuple
 
 ROOT = Path(__file__).resolve().parent.parent
 MEGABYTE = 1_000_000
@@ -285,6 +290,72 @@ TIMED: list[tuple[str, str, list[int]]] = [
 ]
 
 
+# The outline of the blocks of the standard input by libcmark: a line for each block, and its lines of the source. The
+# first function replaces that of the library, so that no inlines are read.
+CMARK_OUTLINE = r"""
+#include <cmark.h>
+#include <stdio.h>
+#include <stdlib.h>
+#include <string.h>
+
+void cmark_parse_inlines(void *mem, void *parent, void *refmap, int options) {}
+
+static void indent(int depth) {
+    for (int at = 0; at < depth; at++) fputs("  ", stdout);
+}
+
+static int is_leaf(cmark_node_type type) {
+    return type == CMARK_NODE_PARAGRAPH || type == CMARK_NODE_HEADING || type == CMARK_NODE_CODE_BLOCK
+        || type == CMARK_NODE_HTML_BLOCK;
+}
+
+int main(void) {
+    size_t size = 0, room = 1 << 20;
+    char *text = malloc(room);
+    for (size_t got; text && (got = fread(text + size, 1, room - size, stdin)) > 0;) {
+        size += got;
+        if (size == room) text = realloc(text, room *= 2);
+    }
+    if (!text) return 3;
+    cmark_node *document = cmark_parse_document(text, size, CMARK_OPT_DEFAULT);
+    cmark_iter *iter = cmark_iter_new(document);
+    const char *from = text, *end = text + size;
+    int line = 1, depth = 0;
+    for (cmark_event_type event; (event = cmark_iter_next(iter)) != CMARK_EVENT_DONE;) {
+        cmark_node *node = cmark_iter_get_node(iter);
+        cmark_node_type type = cmark_node_get_type(node);
+        if (type == CMARK_NODE_DOCUMENT) continue;
+        if (event == CMARK_EVENT_EXIT) {
+            depth -= !is_leaf(type);
+            continue;
+        }
+        indent(depth);
+        fputs(cmark_node_get_type_string(node), stdout);
+        if (type == CMARK_NODE_HEADING) printf(" %d", cmark_node_get_heading_level(node));
+        fputs("\n", stdout);
+        if (is_leaf(type)) {
+            for (; line <= cmark_node_get_end_line(node) && from < end; line++) {
+                const char *feed = memchr(from, '\n', end - from);
+                const char *next = feed ? feed + 1 : end;
+                if (line >= cmark_node_get_start_line(node)) {
+                    indent(depth + 1);
+                    fputs("| ", stdout);
+                    fwrite(from, 1, (feed ? feed : end) - from, stdout);
+                    fputs("\n", stdout);
+                }
+                from = next;
+            }
+        } else if (type != CMARK_NODE_THEMATIC_BREAK) {
+            depth++;
+        }
+    }
+    cmark_iter_free(iter);
+    cmark_node_free(document);
+    free(text);
+    return 0;
+}
+"""
+
 # Programs that are counted beside it where they are installed.
 OTHERS = ["cmark --to xml", "cmark-gfm --extension table --to xml", "md2html --ftables"]
 
@@ -303,6 +374,14 @@ def filled(part: str, size: int) -> str:
 
 # The program with an inline layer.
 LAYER = ROOT / "crates/examples_references/out/examples_references"
+
+
+class Ran(NamedTuple):
+    """What a run took: seconds from its start to its end, the most bytes that it held, and seconds of the processor."""
+
+    seconds: float
+    memory: int
+    processor: float
 
 
 class Program:
@@ -330,8 +409,8 @@ class Program:
         """The instructions by byte of text, less those of an empty one."""
         return (self.instructions(text, given) - self.instructions("", given)) / len(text.encode())
 
-    def run(self, part: str, size: int, given: list[str]) -> tuple[float, int]:
-        """The seconds and the most bytes that a run takes on a part again and again, up to this size.
+    def run(self, part: str, size: int, given: list[str]) -> Ran:
+        """What a run takes on a part again and again, up to this size.
 
         What this script holds when it starts the process counts too, so it keeps no text of that size.
         """
@@ -348,7 +427,7 @@ class Program:
         process.returncode = os.waitstatus_to_exitcode(status)
         if process.returncode != 0:
             raise SystemExit(f"{self.path} ended with status {process.returncode}")
-        return seconds, usage.ru_maxrss * 1024
+        return Ran(seconds, usage.ru_maxrss * 1024, usage.ru_utime + usage.ru_stime)
 
 
 def row(*cells: str) -> None:
@@ -382,9 +461,9 @@ def print_cost(program: Program, size: int, beside: dict[str, tuple[Program, lis
             return f"{more / (len(whole) - len(half)):.1f}"
 
         least = 8 * size
-        while program.run(part, least, given)[1] < 40 * MEGABYTE and least < 60 * MEGABYTE:
+        while program.run(part, least, given).memory < 40 * MEGABYTE and least < 60 * MEGABYTE:
             least *= 2
-        memory = (program.run(part, 2 * least, given)[1] - program.run(part, least, given)[1]) / least
+        memory = (program.run(part, 2 * least, given).memory - program.run(part, least, given).memory) / least
         row(name, cost(program, given), f"{memory:.1f}", *(cost(*other) for other in beside.values()))
 
 
@@ -411,31 +490,63 @@ def print_times(program: Program, runs: int) -> None:
         for count in counts:
             size = count * (MEGABYTE if name.startswith("MB") else len(part))
             ran = [program.run(part, size, arguments(name)) for _ in range(runs)]
-            seconds, held = min(ran)[0], max(held for _, held in ran)
+            seconds, held = min(one.seconds for one in ran), max(one.memory for one in ran)
             speed = size / MEGABYTE / seconds
             row(f"{count:,} {name}", f"{seconds:.3f} s", f"{speed:.1f} MB/s", f"{held / 2**20:.0f} MiB")
 
 
+def cmark_outline(folder: Path) -> Program:
+    """The program of `CMARK_OUTLINE`."""
+    source, built = folder / "cmark_outline.c", folder / "cmark_outline"
+    source.write_text(CMARK_OUTLINE)
+    options = ["-O2", "-Wl,-z,muldefs", "-Wl,-Bstatic", "-lcmark", "-Wl,-Bdynamic"]
+    done = subprocess.run(["cc", source, "-o", built, *options], capture_output=True, text=True)
+    if done.returncode != 0:
+        raise SystemExit(f"no program over libcmark: {done.stderr[-300:]}")
+    return Program(built)
+
+
+def print_beside(program: Program, text: str, runs: int) -> None:
+    """What 10 MB of text take, the least of some runs, each program in turn."""
+    head("Program", "Processor time", "Memory at most")
+    with tempfile.TemporaryDirectory() as folder:
+        programs = {
+            "blocks": (program, []),
+            "blocks gfm": (program, ["gfm"]),
+            "cmark, blocks alone": (cmark_outline(Path(folder)), []),
+        }
+        ran: dict[str, list[Ran]] = {name: [] for name in programs}
+        for _ in range(runs):
+            for name, (one, given) in programs.items():
+                ran[name].append(one.run(text, 10 * MEGABYTE, given))
+    for name, taken in ran.items():
+        processor, held = min(one.processor for one in taken), max(one.memory for one in taken)
+        row(name, f"{processor:.3f} s", f"{held / 2**20:.0f} MiB")
+
+
 def main() -> None:
     parser = argparse.ArgumentParser(description=__doc__, formatter_class=argparse.RawDescriptionHelpFormatter)
-    parser.add_argument("tables", nargs="*", metavar="TABLE", help="cost, growth, times; all where none is named")
+    parser.add_argument("tables", nargs="*", metavar="TABLE", help="cost, growth, times, beside; the first three if none is named")
     parser.add_argument("--program", type=Path, default=ROOT / "crates/blocks/out/blocks", help="what is measured")
     parser.add_argument("--size", type=int, default=240_000, help="bytes of a text that is counted (240000)")
     parser.add_argument("--other", action="append", default=[], metavar="COMMAND", help="counted beside it by `cost`")
     parser.add_argument("--runs", type=int, default=4, help="runs of which the best time counts (4)")
+    parser.add_argument("--text", type=Path, metavar="FILE", help="the text that `beside` repeats")
     asked = parser.parse_args()
     tables = asked.tables or ["cost", "growth", "times"]
-    if unknown := set(tables) - {"cost", "growth", "times"}:
+    if unknown := set(tables) - {"cost", "growth", "times", "beside"}:
         parser.error(f"no table: {', '.join(sorted(unknown))}")
-    if not shutil.which("valgrind") and set(tables) != {"times"}:
+    if not shutil.which("valgrind") and set(tables) & {"cost", "growth"}:
         print("valgrind is not there, so no instructions are counted: times alone", file=sys.stderr)
-        tables = ["times"]
+        tables = [table for table in tables if table not in ("cost", "growth")] or ["times"]
     program = Program(asked.program)
     for table in tables:
         if table == "cost":
             print_cost(program, asked.size, others(OTHERS + asked.other))
         elif table == "growth":
             print_growth(program, asked.size)
+        elif table == "beside":
+            print_beside(program, asked.text.read_text() if asked.text else MIXED, asked.runs)
         else:
             print_times(program, asked.runs)
         print()
