@@ -7,6 +7,11 @@ pub mod FlowTries
 pub mod LeafTried
 pub mod LineMet
 pub mod ContainersTried
+pub mod FreeStates
+pub mod LeafCalls
+pub mod ConstructCalls
+pub mod FirstCalls
+pub mod FrontMet
 pub mod FlowSteps
 pub mod FlowReads
 pub mod LastLine
