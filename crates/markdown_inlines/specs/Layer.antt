@@ -42,8 +42,8 @@ pub record AreEvents (options : InlineOptions) (document : Document) (held : Par
   pub at : IsTextPartAt document held place
   pub same : events ≡ inline_events options document place held
 
--- The events of a part of a document by its place in the exact list, in which it has one place: one list, which the
--- document, the part and the options determine.
+-- The events of a part of a document by its place in the exact list, in which it has one at most: of a part of that
+-- list they are one list, which the document, the part and the options determine.
 abbrev pub AreTheEvents : InlineOptions → Document → Part → List Event → Type 0
 AreTheEvents options document held events =
     (place : PartPlace) → IsListedAt document held place → events ≡ inline_events options document place held
