@@ -201,7 +201,8 @@ shutil.rmtree(f"{work}/crates/test_bench/src")
 os.mkdir(f"{work}/crates/test_bench/src")
 open(f"{work}/crates/test_bench/src/main.rt", "w").write(main)
 PYTHON
-(cd "$work/crates/test_bench" && rt try --steps 1 --seconds 300 --cases "$work/cases" >"$work/said" 2>"$work/ends" </dev/null) || true
+top=$PWD
+(cd "$work/crates/test_bench" && "$top/scripts/rt.py" try --steps 1 --seconds 300 --cases "$work/cases" >"$work/said" 2>"$work/ends" </dev/null) || true
 python3 - "$work" scripts/wrong-bodies/*.edit <<'PYTHON'
 import re, sys
 sys.path.insert(0, "scripts")
