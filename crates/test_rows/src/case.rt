@@ -38,16 +38,20 @@ impl<'a> Case<'a> {
     pub fn read(alloc: Global, row: &'a str) -> Result<Case<'a>, CaseError> {
         let (head, rest) = row.split_once('\n').ok_or(CaseError::Form)?;
         let (section, sets) = head.split_once(" | ").ok_or(CaseError::Form)?;
-        let (constructs, needed) = sets_of(sets).ok_or(CaseError::Form)?;
+        let (set, about) = sets.split_once(" | ").unwrap_or((sets, ""));
+        let constructs = constructs_of(set).ok_or(CaseError::Form)?;
+        let needed = match about {
+            "" => constructs,
+            "nothing" => Constructs::NONE,
+            names => named(names).ok_or(CaseError::Form)?,
+        };
         let (text, outline) = rest.split_once('\n').unwrap_or((rest, ""));
-        let text = unquoted(alloc, text)?;
-        let output = output_of(alloc, outline)?;
         Ok(Case {
             section,
             constructs,
             needed,
-            text,
-            output,
+            text: unquoted(alloc, text)?,
+            output: output_of(alloc, outline)?,
         })
     }
 
@@ -55,19 +59,6 @@ impl<'a> Case<'a> {
     pub fn holds_with(&self, built: &Constructs) -> bool {
         both(&self.needed, built) == self.needed
     }
-}
-
-/// The constructs that are on, and those of them that the row is about.
-fn sets_of(sets: &str) -> Option<(Constructs, Constructs)> {
-    let (set, about) = sets.split_once(" | ").unwrap_or((sets, ""));
-    let constructs = constructs_of(set)?;
-    if about.is_empty() {
-        return Some((constructs, constructs));
-    }
-    if about == "nothing" {
-        return Some((constructs, Constructs::NONE));
-    }
-    Some((constructs, named(about)?))
 }
 
 /// The constructs that a row's set names.

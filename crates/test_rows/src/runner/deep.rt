@@ -15,8 +15,15 @@ pub fn try_depths<B: Body>(alloc: Global, report: &mut Report) -> Result<(), Cas
     try_depth::<B>(alloc, report, "- ", 200, &["list -\n", "item\n"])
 }
 
-/// What is printed of an `a` so many times in containers, of which these are the words of one.
-fn deep(alloc: Global, times: usize, words: &[&str]) -> Result<String, AllocError> {
+/// Tries the marker of a container so many times before an `a`.
+fn try_depth<B: Body>(
+    alloc: Global,
+    report: &mut Report,
+    marker: &str,
+    times: usize,
+    words: &[&str],
+) -> Result<(), CaseError> {
+    let text = nested(alloc, marker, times)?;
     let mut wanted = String::new(alloc);
     let mut indent = String::new(alloc);
     for _ in 0..times {
@@ -29,32 +36,9 @@ fn deep(alloc: Global, times: usize, words: &[&str]) -> Result<String, AllocErro
         wanted,
         "{indent}paragraph\n  {indent}| a\n\ndefinitions 0\nfootnotes 0\n"
     )?;
-    Ok(wanted)
-}
-
-/// Tries the marker of a container so many times before an `a`.
-fn try_depth<B: Body>(
-    alloc: Global,
-    report: &mut Report,
-    marker: &str,
-    times: usize,
-    words: &[&str],
-) -> Result<(), CaseError> {
-    let text = nested(alloc, marker, times)?;
-    let wanted = deep(alloc, times, words)?;
-    try_deep::<B>(alloc, text.as_str(), wanted.as_str(), report)
-}
-
-/// Tries what is printed of a text, and its events.
-fn try_deep<B: Body>(
-    alloc: Global,
-    text: &str,
-    wanted: &str,
-    report: &mut Report,
-) -> Result<(), CaseError> {
-    let got = printed::<B>(alloc, text, &Constructs::ALL)?;
-    report.add("deep nesting", text, wanted, got.as_str())?;
-    try_events::<B>(alloc, text, &Constructs::ALL, report)
+    let got = printed::<B>(alloc, text.as_str(), &Constructs::ALL)?;
+    report.add("deep nesting", text.as_str(), wanted.as_str(), got.as_str())?;
+    try_events::<B>(alloc, text.as_str(), &Constructs::ALL, report)
 }
 
 /// Markers that open containers, with how many words of the outline are one in another for each, and how many lines it

@@ -66,16 +66,6 @@ impl<'a> List<'a> {
         self.vs = self.vs.wrapping_add(part.columns);
         Ok(true)
     }
-
-    /// Takes the part of a line.
-    fn add_line(&mut self, alloc: Global, text: &[u8], line: &'a str) -> Result<(), CaseError> {
-        let part = Part::read(line).ok_or(CaseError::Form)?;
-        let bytes = unescaped(alloc, part.bytes)?;
-        if part.depth > self.open.len() || !self.add(text, part, bytes.as_str())? {
-            return Err(CaseError::Form);
-        }
-        Ok(())
-    }
 }
 
 /// The list that a row wants, as the program `events` prints it.
@@ -88,7 +78,11 @@ pub fn wanted(alloc: Global, case: &EventCase<'_>) -> Result<String, CaseError> 
         vs: 0,
     };
     for line in case.parts.lines() {
-        list.add_line(alloc, text, line)?;
+        let part = Part::read(line).ok_or(CaseError::Form)?;
+        let bytes = unescaped(alloc, part.bytes)?;
+        if part.depth > list.open.len() || !list.add(text, part, bytes.as_str())? {
+            return Err(CaseError::Form);
+        }
     }
     list.close(0)?;
     if list.place.index != text.len() || list.vs != 0 {
@@ -131,21 +125,6 @@ fn push_line(
     )
 }
 
-/// Tries the events that a body makes on a row of events, if it makes events.
-fn try_event_row<B: Body>(
-    alloc: Global,
-    case: &EventCase<'_>,
-    report: &mut Report,
-) -> Result<(), CaseError> {
-    let text = case.text.as_str();
-    let Some(events) = events_of::<B>(alloc, text, &case.constructs)? else {
-        return Ok(());
-    };
-    let list = wanted(alloc, case)?;
-    let got = printed(alloc, events.as_slice())?;
-    Ok(report.add(case.section, text, list.as_str(), got.as_str())?)
-}
-
 /// Tries the events that a body makes on a table of rows of events, if it makes events: of those that mark references,
 /// or of the others.
 pub fn try_event_rows<B: Body>(
@@ -160,7 +139,12 @@ pub fn try_event_rows<B: Body>(
         if case.marks_references == marks_references
             && both(&case.constructs, &built) == case.constructs
         {
-            try_event_row::<B>(alloc, &case, report)?;
+            let text = case.text.as_str();
+            if let Some(events) = events_of::<B>(alloc, text, &case.constructs)? {
+                let list = wanted(alloc, &case)?;
+                let got = printed(alloc, events.as_slice())?;
+                report.add(case.section, text, list.as_str(), got.as_str())?;
+            }
         }
     }
     Ok(())

@@ -6,7 +6,7 @@ use crate::runner::rows::printed;
 use crate::runner::texts::repeated;
 use md_engine::configuration::Constructs;
 use md_program::body::Body;
-use std::alloc::{AllocError, Global};
+use std::alloc::Global;
 
 /// A text with many times an `a` in its middle, and what its outline begins with.
 struct Long {
@@ -56,18 +56,11 @@ const LABELS: [Long; 6] = [
     },
 ];
 
-impl Long {
-    /// The text.
-    fn text(&self, alloc: Global) -> Result<String, AllocError> {
-        let middle = repeated(alloc, "a", self.times)?;
-        format!(in alloc; "{}{}{}", self.open, middle, self.close)
-    }
-}
-
 /// Tries a body that has definitions and footnotes on long labels.
 pub fn try_labels<B: Body>(alloc: Global, report: &mut Report) -> Result<(), CaseError> {
     for long in &LABELS {
-        let text = long.text(alloc)?;
+        let middle = repeated(alloc, "a", long.times)?;
+        let text = format!(in alloc; "{}{}{}", long.open, middle, long.close)?;
         let got = printed::<B>(alloc, text.as_str(), &Constructs::ALL)?;
         let front = if got.as_str().starts_with(long.begin) {
             long.begin

@@ -218,12 +218,11 @@ fn try_flags<A: Body, B: Body>(
 ) -> Result<(), CaseError> {
     let mut source = Pcg32::new(seed, 0);
     for number in 0..count {
-        let pieces = if number % 2 == 0 {
-            FRAGMENTS.as_slice()
+        let text = if number % 2 == 0 {
+            random(alloc, &mut source, &FRAGMENTS, MOST_FRAGMENTS)?
         } else {
-            ALERTS.as_slice()
+            random(alloc, &mut source, &ALERTS, MOST_FRAGMENTS)?
         };
-        let text = random(alloc, &mut source, pieces, MOST_FRAGMENTS)?;
         let constructs = built_of::<A>(&without_some(&mut source, HALF));
         try_text::<A, B>(alloc, text.as_str(), &constructs, report)?;
         try_events::<A>(alloc, text.as_str(), &constructs, report)?;

@@ -88,17 +88,6 @@ pub fn try_short<B: Body>(
     Ok(())
 }
 
-/// Tries all begins of a text.
-fn try_begins_of<B: Body>(alloc: Global, text: &str, report: &mut Report) -> Result<(), CaseError> {
-    try_begin::<B>(alloc, "", report)?;
-    let mut begin = String::new(alloc);
-    for c in text.chars() {
-        begin.push(c)?;
-        try_begin::<B>(alloc, begin.as_str(), report)?;
-    }
-    Ok(())
-}
-
 /// Tries the texts of rows, each cut at each of its characters: the events under the four sets, and the laws with all
 /// constructs of the body, with alerts and without.
 pub fn try_begins<B: Body>(
@@ -108,7 +97,12 @@ pub fn try_begins<B: Body>(
 ) -> Result<(), CaseError> {
     for row in rows.split("\n\n") {
         let case = Case::read(alloc, row)?;
-        try_begins_of::<B>(alloc, case.text.as_str(), report)?;
+        let mut begin = String::new(alloc);
+        try_begin::<B>(alloc, "", report)?;
+        for c in case.text.as_str().chars() {
+            begin.push(c)?;
+            try_begin::<B>(alloc, begin.as_str(), report)?;
+        }
     }
     Ok(())
 }

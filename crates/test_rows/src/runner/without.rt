@@ -56,21 +56,6 @@ pub fn try_without<B: Body>(
     Ok(())
 }
 
-/// Whether a heading of the construct of this name is among the events of a text, which are tried too.
-fn heads<B: Body>(
-    alloc: Global,
-    text: &str,
-    constructs: &Constructs,
-    name: &str,
-    report: &mut Report,
-) -> Result<bool, CaseError> {
-    let Some(events) = events_of::<B>(alloc, text, constructs)? else {
-        return Ok(false);
-    };
-    add_events(alloc, text, events.as_slice(), report)?;
-    Ok(events.iter().any(|event| is_heading_of(event, name)))
-}
-
 /// Tries a text with all constructs of a set but that of this name.
 fn try_off<B: Body>(
     alloc: Global,
@@ -81,17 +66,16 @@ fn try_off<B: Body>(
 ) -> Result<(), CaseError> {
     let mut constructs = *set;
     let _ = switch(&mut constructs, name, false);
-    let is_line = occurs::<B>(alloc, text, &constructs, name)?;
-    let is_event = heads::<B>(alloc, text, &constructs, name, report)?;
+    let mut is_there = occurs::<B>(alloc, text, &constructs, name)?;
+    if let Some(events) = events_of::<B>(alloc, text, &constructs)? {
+        is_there = is_there || events.iter().any(|event| is_heading_of(event, name));
+        add_events(alloc, text, events.as_slice(), report)?;
+    }
     report.add(
         name,
         text,
         "is off",
-        if is_line || is_event {
-            "occurs"
-        } else {
-            "is off"
-        },
+        if is_there { "occurs" } else { "is off" },
     )?;
     Ok(())
 }

@@ -47,27 +47,19 @@ fn lines_of(alloc: Global, row: &str) -> Result<Vec<String>, CaseError> {
     Ok(lines)
 }
 
-/// Tries a text in a container.
-fn try_one(
-    title: &str,
-    text: &str,
-    wanted: &String,
-    got: Result<String, CaseError>,
-    report: &mut Report,
-) -> Result<(), CaseError> {
-    let got = got?;
-    Ok(report.add(title, text, wanted.as_str(), got.as_str())?)
-}
-
 /// Tries one row of a table of wraps.
 fn try_wrap(alloc: Global, lines: &[String], report: &mut Report) -> Result<(), CaseError> {
     let [text, quote, item, footnote] = lines else {
         return Err(CaseError::Form);
     };
     let text = text.as_str();
-    try_one("a quote", text, quote, quoted(alloc, text), report)?;
-    try_one("an item", text, item, itemised(alloc, text), report)?;
-    try_one("a footnote", text, footnote, footnoted(alloc, text), report)
+    let got = quoted(alloc, text)?;
+    report.add("a quote", text, quote.as_str(), got.as_str())?;
+    let got = itemised(alloc, text)?;
+    report.add("an item", text, item.as_str(), got.as_str())?;
+    let got = footnoted(alloc, text)?;
+    report.add("a footnote", text, footnote.as_str(), got.as_str())?;
+    Ok(())
 }
 
 /// Tries this on a table of wraps.
