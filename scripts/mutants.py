@@ -155,7 +155,7 @@ def copied(work, found):
 def built(work, found):
     """The program with all wrong bodies."""
     copied(work, found)
-    ran = subprocess.run(["rt", "try", "--", "--version"], cwd=f"{work}/crates/hoxalgurre", capture_output=True, text=True,
+    ran = subprocess.run([os.path.abspath("scripts/rt.py"), "try", "--", "--version"], cwd=f"{work}/crates/hoxalgurre", capture_output=True, text=True,
                          stdin=subprocess.DEVNULL, env={**os.environ, "RT_ALLOW_C": "mutant"})
     if not os.path.isfile(f"{work}/kept"):
         sys.exit(f"mutants: no program is built\n{ran.stdout[-1000:]}\n{ran.stderr[-6000:]}")
