@@ -6,9 +6,9 @@
 // the text, and so are the labels. An item is never last in a part that is followed by another, since the next item
 // might be one of its list.
 //
-// Where a part ends is tried at an empty line after a line that looks as the last of a paragraph does. Where it does not
-// end there it is read again, up to such a line that is four times as far, so that at most a third of a text is read
-// twice. A text that has no such line is one part.
+// Where a part ends is tried at an empty line after a line that looks like the last of a paragraph. Where it does not end
+// there it is read again, up to such a line that is four times as far, or to the end of the text. A text that has no such
+// line is one part.
 
 ghost use Rattle.std.specs.Prelude.{◌≡◌, ◌≤◌, ◌<◌, ◌++◌, IfErr, IfNone, IfOk, IfSome, List, Some, None, [], length, true};
 ghost use Rattle.std.specs.Prelude.{false};
@@ -180,8 +180,8 @@ fn next_line(text: &[u8], end: usize) -> usize
     end + 1
 }
 
-/// Whether a line looks as the last of a paragraph does, or as a definition: it begins as few other blocks do, and does
-/// not end as lines of code do. What it is, flow says.
+/// Whether a line looks like the last of a paragraph, or like a definition: it begins as few other blocks do, and does not
+/// end as lines of code do. What it is, flow says.
 fn may_end_text(line: &[u8]) -> bool
     ensures { result ≡ true → 0 < length line.now }
 {
@@ -453,7 +453,7 @@ fn point_in(text: &[u8], point: Point) -> Option<Point>
 impl<'a> Parts<'a> {
     ghost use Rattle.markdown_blocks.specs.PartsLeft.{left_in};
 
-    /// A text that is read in parts of some more than 64 KiB, or larger where a block is.
+    /// A text that is read in parts of 64 KiB, or larger where a block is.
     ///
     /// The text has at most `MAX_LEN` bytes, and the constructs of MDX are off. A byte order mark before the text is
     /// taken as such. Nothing is read yet, and no memory is taken.
