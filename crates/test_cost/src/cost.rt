@@ -18,9 +18,9 @@ use std::mem::size_of;
 /// How a text begins whose parts the layer `References` reads.
 const REFERENCES: &str = "[references]: /\n";
 
-/// How a text begins whose blocks and parts are read with the constructs of GitHub, the parts by the layer `Inlines`.
-/// Those of any other text are read as lines.
-const INLINES: &str = "[inlines]: /\n";
+/// How a text begins whose blocks and parts are read with the constructs of GitHub, the parts by the layer `Inlines`:
+/// two blank lines, the second with a tab. The parts of any other text are read as lines.
+const INLINES: &str = "\n\t\n";
 
 /// The events of a text, and what else is known of it.
 fn read<'a>(
