@@ -26,6 +26,10 @@ mod content;
 #[cfg(test)]
 mod deep;
 #[cfg(test)]
+mod html;
+#[cfg(test)]
+mod html_rows;
+#[cfg(test)]
 mod layer;
 #[cfg(test)]
 mod marks;
