@@ -1,6 +1,6 @@
 // The HTML of texts: that of the rows, options, and what has a limit or none.
 
-use crate::html_rows::{
+use crate::page_rows::{
     BLOCKS, DANGEROUS, EMPHASIS, FOOTNOTES, GITHUB, IMAGES, LINKS, LISTS, OTHERS, SAFE, TABLES,
     TEXTS,
 };
@@ -171,15 +171,20 @@ fn repeated(
 
 // What is in one another takes no stack.
 #[test]
-fn depth_has_no_limit(rt: HostRuntime) -> Result<(), Fail> {
+fn quotes_have_no_limit(rt: HostRuntime) -> Result<(), Fail> {
     let alloc = rt.alloc();
     let quotes = repeated(alloc, "", ">", 100_000, "a")?;
     let found = page(alloc, quotes.as_str(), COMMONMARK, &HtmlOptions::SAFE)?;
-    assert!(rt;
-        found.len() == 100_000 * "<blockquote>\n</blockquote>\n".len() + "<p>a</p>\n".len()
-    );
-    let ends = repeated(alloc, "a", "](b)", 100_000, "")?;
-    let images = repeated(alloc, "", "![", 100_000, ends.as_str())?;
+    // `<p>a</p>`, and around it `<blockquote>` and `</blockquote>`, each with a line ending
+    assert!(rt; found.len() == 9 + 100_000 * 27);
+    Ok(())
+}
+
+#[test]
+fn images_have_no_limit(rt: HostRuntime) -> Result<(), Fail> {
+    let alloc = rt.alloc();
+    let ends = repeated(alloc, "a", "](b)", 10_000, "")?;
+    let images = repeated(alloc, "", "![", 10_000, ends.as_str())?;
     let found = page(alloc, images.as_str(), COMMONMARK, &HtmlOptions::SAFE)?;
     assert!(rt; found.as_str() == "<p><img src=\"b\" alt=\"a\" /></p>\n");
     Ok(())
@@ -190,10 +195,10 @@ fn depth_has_no_limit(rt: HostRuntime) -> Result<(), Fail> {
 fn references_have_a_limit(rt: HostRuntime) -> Result<(), Fail> {
     let alloc = rt.alloc();
     let defined = repeated(alloc, "\n\n[a]: ", "b", 20_000, "")?;
-    let text = repeated(alloc, "", "[a]", 1000, defined.as_str())?;
+    let text = repeated(alloc, "", "[a].", 1000, defined.as_str())?;
     let found = page(alloc, text.as_str(), COMMONMARK, &HtmlOptions::SAFE)?;
-    let links = 5 * (20_000 + "<a href=\"\">a</a>".len());
-    assert!(rt; found.len() == "<p></p>\n".len() + links + 995);
+    // `<p></p>` with a line ending; `<a href="..">a</a>.`; `a.`
+    assert!(rt; found.len() == 8 + 5 * 20_017 + 995 * 2);
     Ok(())
 }
 
@@ -205,10 +210,8 @@ fn empty_cells_have_a_limit(rt: HostRuntime) -> Result<(), Fail> {
     let delimiters = repeated(alloc, head.as_str(), "-|", 1001, "\n")?;
     let text = repeated(alloc, delimiters.as_str(), "|b|\n", 1000, "")?;
     let found = page(alloc, text.as_str(), GFM, &HtmlOptions::SAFE)?;
-    let empty = 100_000 * "<td></td>\n".len();
-    let head = 1001 * "<th>a</th>\n".len();
-    let rows = 1000 * "<tr>\n<td>b</td>\n</tr>\n".len();
-    let around = "<table>\n<thead>\n<tr>\n</tr>\n</thead>\n<tbody>\n</tbody>\n</table>\n".len();
-    assert!(rt; found.len() == around + head + rows + empty);
+    // the tags of the table, its head, its body and the row in its head; `<th>a</th>`; a row with `<td>b</td>`;
+    // `<td></td>`; each with a line ending
+    assert!(rt; found.len() == 62 + 1001 * 11 + 1000 * 22 + 100_000 * 10);
     Ok(())
 }
