@@ -29,7 +29,7 @@ use Rattle.md_engine.specs.declared.tokenizer.container.name.ContainerKind.TheVa
 use Rattle.md_engine.specs.declared.tokenizer.held_leaf.HeldLeaf.{HeldLeaf}
 use Rattle.md_engine.specs.declared.tokenizer.held_leaf.HeldLeaf.TheVariants as held_leaf
 use Rattle.md_engine.specs.Meaning.{Cell, Feed, Follows}
-use Rattle.md_engine.specs.Run.{Calls, IsEnd, Leaves, Runs, leads_back, left, next_of, plain, reading}
+use Rattle.md_engine.specs.Run.{Calls, IsEnd, Leaves, Runs, leads_back, next_of, plain, reading}
 use Rattle.md_engine.specs.Run.Runs.{Stays, ThenCalls, ThenLeaves}
 use Rattle.md_engine.specs.World.{Flags, Setting, World, closed, container_of, looks}
 use Rattle.md_containers.specs.Item as ItemStates

@@ -1,6 +1,6 @@
 -- Where the leaf of a line begins: the states there have what they require, but where leaves are tried after the one that
 -- is asked first has refused the line.
-use Rattle.std.proofs.Common.{◌≡◌, ◌⊎◌, inl, inr, ℕ, Bool, true, false, cond, List, ◌++◌, refl, sym, ap, ◌∙◌, subst}
+use Rattle.std.proofs.Common.{◌≡◌, ◌⊎◌, inl, inr, ℕ, Bool, true, false, cond, List, refl, sym, ap, ◌∙◌, subst}
 use Rattle.std.proofs.Common.{Option, Some, None}
 use Rattle.std.specs.Option.{is_some}
 use Rattle.md_engine.specs.declared.configuration.ParseOptions.{ParseOptions}
@@ -16,7 +16,6 @@ use Rattle.md_engine.specs.Meaning.{Cell}
 use Rattle.md_engine.specs.Scheme.{valid}
 use Rattle.md_engine.specs.TextFeed.{text_feed}
 use Rattle.md_engine.specs.World.{World}
-use Rattle.md_events.proofs.RestCells.{rest_cells}
 use Rattle.md_events.specs.Spaces.{IsRest}
 use Rattle.md_exact.specs.Places.{TextLine}
 use Rattle.md_exact.specs.Rows.{Role}

@@ -18,7 +18,7 @@ use Rattle.md_engine.specs.declared.tokenizer.container.name.ContainerKind.{Cont
 use Rattle.md_engine.specs.Run.{Calls, Runs, plain, reading as seeing}
 use Rattle.md_engine.specs.Scheme.{valid}
 use Rattle.md_engine.specs.TextFeed.{text_feed}
-use Rattle.md_engine.specs.World.{Flags, Setting, World, looks}
+use Rattle.md_engine.specs.World.{Flags, Setting, World}
 use Rattle.md_engine.proofs.Keeps.{runs-setting}
 use Rattle.std.proofs.lemmas.List.{length-map}
 use Rattle.md_meaning.specs.Preamble.{rest_at}
