@@ -45,5 +45,6 @@ pub mod PartEvents
 pub mod PartNext
 pub mod PartWhole
 pub mod PartFront
+mod PlaceOnce
 mod PlacedParts
 mod PartWalk
