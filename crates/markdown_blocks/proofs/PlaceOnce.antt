@@ -1,5 +1,5 @@
--- A text part is once in a block list: its first chunk is not empty and begins where the part does, the points of events
--- never go back, and no text part is inside of another.
+-- A text part is once in a block list: its first chunk is not empty and begins where the part does, the points of
+-- events never go back, and no text part is inside of another.
 use Rattle.std.proofs.Common.{◌≡◌, ℕ, zero, suc, ◌-◌, ◌<◌, ◌≤◌, ◌⊎◌, inl, inr, Bool, true, false, cond, ◌&&◌, ◌||◌}
 use Rattle.std.proofs.Common.{List, [], ◌∷◌, ◌++◌, take, drop, refl, ap, sym, ◌∙◌, subst, arith}
 use Rattle.std.specs.Prelude.{◌==◌, not, IsTrue, Option, Some, None, slice_range}
@@ -362,15 +362,15 @@ two-of (x ∷ xs) a cs (y ∷ ys) b bs is =
       | inl same ↦ inl (ap (λ (l : List Event). x ∷ l) same.0 ∙ ap (λ (e : Event). e ∷ ys) head, same.1)
       | inr other ↦ elim other [
         | inl r ↦ inr (inl (record {
-            between = r.between;
-            front = ap (λ (e : Event). e ∷ ys) (sym head) ∙ ap (λ (l : List Event). x ∷ l) r.front;
-            back = r.back;
-          }))
+          between = r.between;
+          front = ap (λ (e : Event). e ∷ ys) (sym head) ∙ ap (λ (l : List Event). x ∷ l) r.front;
+          back = r.back;
+        }))
         | inr r ↦ inr (inr (record {
-            between = r.between;
-            front = ap (λ (e : Event). e ∷ xs) head ∙ ap (λ (l : List Event). y ∷ l) r.front;
-            back = r.back;
-          }))
+          between = r.between;
+          front = ap (λ (e : Event). e ∷ xs) head ∙ ap (λ (l : List Event). y ∷ l) r.front;
+          back = r.back;
+        }))
       ]
     ]
 
@@ -393,9 +393,9 @@ place-once bytes blocks part one other list a b =
           ∙ ap (place_of b.before) same.1
           ∙ sym b.place_is
       | inr apart ↦ absurd (elim apart [
-          | inl r ↦ after-twice bytes blocks a.before a.begin a.following b.before b.begin b.following part list
-              a.among a.begins b.begins r
-          | inr r ↦ after-twice bytes blocks b.before b.begin b.following a.before a.begin a.following part list
-              b.among b.begins a.begins r
-        ])
+        | inl r ↦ after-twice bytes blocks a.before a.begin a.following b.before b.begin b.following part list
+            a.among a.begins b.begins r
+        | inr r ↦ after-twice bytes blocks b.before b.begin b.following a.before a.begin a.following part list
+            b.among b.begins a.begins r
+      ])
     ]
