@@ -140,6 +140,7 @@ use markdown_blocks::outline::outline_part;
 use markdown_blocks::parser::{parse, parse_with};
 use examples_layer::References;
 use test_rows::runner::event_rows::wanted;
+use test_rows::runner::events::add_events;
 use test_rows::runner::long::try_labels;
 use test_rows::runner::report::Report;
 use printing::printed::PartByPart;
@@ -150,8 +151,10 @@ use test_rows::runner::wraps::try_wraps;
 use test_rows::case::CaseError;
 use test_rows::event_case::EventCase;
 use md_engine::configuration::{Constructs, ParseOptions};
-use md_engine::event::Event;
+use md_engine::event::{Event, Point};
 use md_engine::message::Message;
+use md_engine::resolve::Name as ResolveName;
+use md_engine::tokenizer::Tokenizer;
 use md_program::body::{Body, Outlined};
 use md_program::printing::{OutlineOf, Printing};
 use md_program::run::run;
@@ -232,6 +235,21 @@ fn try_others(alloc: Global, report: &mut Report) -> Result<(), CaseError> {
     let wanted = OutlineOf::<Blocks>::output(alloc, text, ParseOptions::GFM).or(Err(CaseError::Memory))?;
     let got = PartByPart::output(alloc, text, ParseOptions::GFM).or(Err(CaseError::Memory))?;
     report.add("an outline by parts", text, wanted.as_str(), got.as_str())?;
+    // What is known of the item may not be taken for known of the quote.
+    let text = "- a\\n\\nb\\n\\n> ```\\n\\nc\\n";
+    let wanted = OutlineOf::<Plain>::output(alloc, text, ParseOptions::GFM).or(Err(CaseError::Memory))?;
+    let got = OutlineOf::<Blocks>::output(alloc, text, ParseOptions::GFM).or(Err(CaseError::Memory))?;
+    report.add("containers at an empty line", text, wanted.as_str(), got.as_str())?;
+    let first = Point { line: 1, column: 1, index: 0, vs: 0 };
+    let mut tokenizer = Tokenizer::new(alloc, first, &[], &ParseOptions::GFM);
+    for name in [ResolveName::ListItem, ResolveName::GfmTable] {
+        tokenizer.register_resolver(name).or(Err(CaseError::Memory))?;
+    }
+    let in_order = matches!(tokenizer.resolvers.as_slice(), [ResolveName::ListItem, ResolveName::GfmTable]);
+    report.add("resolvers", "", "in order", if in_order { "in order" } else { "in another" })?;
+    let text = "[a]: /b 'x\\n  y'\\n";
+    let (events, _state) = parse_with(alloc, &References, text, &ParseOptions::GFM).or(Err(CaseError::Memory))?;
+    add_events(alloc, text, events.as_slice(), report)?;
     for (line, wanted) in [("***\\n", "683 683 634 "), ("- a\\n", "6001 ")] {
         let text = repeated(alloc, line, 2_000)?;
         let got = parts(alloc, text.as_str()).or(Err(CaseError::Memory))?;
