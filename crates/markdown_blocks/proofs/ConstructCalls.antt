@@ -20,8 +20,8 @@ use Rattle.md_meaning.specs.Bytes.{is_end}
 use Rattle.md_events.specs.Look.{looks_after}
 use Rattle.md_events.specs.Spaces.{any_size, ends_line, sees_white, small_indent}
 use Rattle.md_registry.specs.States.{flow_transition}
-use Rattle.markdown_blocks.proofs.FreeStates.{LeadsFree, blank-leads, checks, chunk-leads, either, is_free}
-use Rattle.markdown_blocks.proofs.FreeStates.{leaf-start, tries, turns, white-leads, whites}
+use Rattle.markdown_blocks.proofs.LeafCalls.{LeadsFree, blank-leads, checks, chunk-leads, either, is_free}
+use Rattle.markdown_blocks.proofs.LeafCalls.{leaf-start, tries, turns, white-leads, whites}
 use Rattle.markdown_blocks.proofs.LeafCalls.{break-leads, code-leads, fence-leads, heading-leads, html-leads}
 use Rattle.markdown_blocks.proofs.LeafCalls.{setext-leads, table-leads}
 

@@ -55,7 +55,7 @@ use Rattle.markdown_blocks.specs.Fed.{before_opener, fed, flow_begins, line_begi
 use Rattle.markdown_blocks.proofs.Attempts.{left-outer}
 use Rattle.markdown_blocks.proofs.ConstructCalls.{free-leads, is_plain}
 use Rattle.markdown_blocks.proofs.ContainersTried.{further-tried, opener-tried}
-use Rattle.markdown_blocks.proofs.FreeStates.{Begins, IsFreeFrame, LeadsFree, StaysFree, either, is_free, tries, turns}
+use Rattle.markdown_blocks.proofs.LeafCalls.{Begins, IsFreeFrame, LeadsFree, StaysFree, either, is_free, tries, turns}
 use Rattle.markdown_blocks.proofs.LeafTried.{AtBlank, AtLeaf, AtText, FlowLeads, Follows_on, HasMet, IsAskedAt, IsFlow}
 use Rattle.markdown_blocks.proofs.LeafTried.{Tried, Tries_leaf, frame_of, is_flow}
 use Rattle.markdown_blocks.proofs.LineMet.{Meets, OnLine, between-met, flow-led, is_between, left-flags, next-line}

@@ -7,7 +7,6 @@ pub mod FlowTries
 pub mod LeafTried
 pub mod LineMet
 pub mod ContainersTried
-pub mod FreeStates
 pub mod LeafCalls
 pub mod ConstructCalls
 pub mod FirstCalls
