@@ -9,9 +9,9 @@ use Rattle.markdown_inlines.proofs.layer.place_to_read_at.Goals as goal
 pub returns-then-place_matters : goal.returns-then-place_matters
 returns-then-place_matters c =
     IfOk-weaker c.place_of.result _ _
-    (λ place is.
+    (λ place at.
     means-at c.args.options.now (document_of c.args.state.now)
-    (record { kind = c.args.kind; chunks = c.args.chunks.now }) place is.at)
+    (record { kind = c.args.kind; chunks = c.args.chunks.now }) place at)
     c.place_of.ensures
 
 pub returns : goal.returns
