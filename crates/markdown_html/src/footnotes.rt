@@ -38,7 +38,7 @@ fn push_call_id(known: &Known, out: &mut Writer, form: &str, nth: usize) {
 }
 
 /// The normal form of the label of a footnote.
-fn form_of<'a>(known: &Known<'a>, note: usize) -> &'a str {
+fn form_of<'a>(known: &Known<'a, '_>, note: usize) -> &'a str {
     match known.forms.get(note) {
         Some(form) => form.as_str(),
         None => "",

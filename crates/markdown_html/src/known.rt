@@ -9,7 +9,7 @@ use std::alloc::Global;
 
 /// The text, what is known of the whole of it, and what is asked for.
 #[derive(Clone, Copy)]
-pub(crate) struct Known<'a> {
+pub(crate) struct Known<'a, 'b> {
     pub(crate) alloc: Global,
     pub(crate) bytes: &'a [u8],
     pub(crate) events: &'a [Event],
@@ -21,7 +21,7 @@ pub(crate) struct Known<'a> {
     pub(crate) notes: &'a Notes,
     /// The normal forms of the labels of footnotes, in the order of the text.
     pub(crate) forms: &'a [String],
-    pub(crate) labels: &'a Labels<'a>,
+    pub(crate) labels: &'a Labels<'b>,
 }
 
 /// The first line ending of a text, or another if it has none.

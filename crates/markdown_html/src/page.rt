@@ -47,8 +47,8 @@ struct OpenNote {
 
 /// What is written, and what has to be known of the parts that are open.
 #[derive(Drop)]
-struct Page<'a> {
-    known: Known<'a>,
+struct Page<'a, 'b> {
+    known: Known<'a, 'b>,
     out: Writer,
     /// Where the part begins that was entered last.
     start: Point,
@@ -116,7 +116,7 @@ pub fn html<'a>(
 }
 
 /// The HTML by what is known.
-fn write<'a>(known: Known<'a>, loose: &'a [bool]) -> Result<String, Message> {
+fn write<'a, 'b>(known: Known<'a, 'b>, loose: &'a [bool]) -> Result<String, Message> {
     let mut page = Page::new(known, loose);
     for (at, event) in known.events.iter().enumerate() {
         match event.kind {
@@ -134,9 +134,9 @@ fn write<'a>(known: Known<'a>, loose: &'a [bool]) -> Result<String, Message> {
     }
 }
 
-impl<'a> Page<'a> {
+impl<'a, 'b> Page<'a, 'b> {
     /// A page on which nothing is written.
-    fn new(known: Known<'a>, loose: &'a [bool]) -> Page<'a> {
+    fn new(known: Known<'a, 'b>, loose: &'a [bool]) -> Page<'a, 'b> {
         let alloc = known.alloc;
         Page {
             known,
