@@ -108,7 +108,7 @@ def calls():
 
 
 def main():
-    top = os.path.join(os.path.dirname(os.path.abspath(__file__)), "..")
+    top = os.path.dirname(os.path.dirname(os.path.abspath(__file__)))
     wanted = list(calls())
     missing = {}
     with tempfile.TemporaryDirectory() as work:
@@ -126,7 +126,7 @@ def main():
             lines = ["" if path in missing else line for path, line in wanted]
             with open(os.path.join(source, "main.rt"), "w", encoding="utf-8") as program:
                 program.write(HEAD + "\n".join(lines) + "\n" + MAIN)
-            run = subprocess.run(["rt", "try"], cwd=os.path.dirname(source), stdin=subprocess.DEVNULL, check=False,
+            run = subprocess.run([os.path.join(top, "scripts/rt.py"), "try"], cwd=os.path.dirname(source), stdin=subprocess.DEVNULL, check=False,
                                  stdout=subprocess.PIPE, stderr=subprocess.STDOUT, text=True)
             found = {}
             for error in re.finditer(r"^src/main\.rt:(\d+):\d+: error\[[\w-]+\]: (.*)$", run.stdout, re.M):

@@ -3,7 +3,8 @@
 #
 # In a copy of this repository: a call into itself, also by a symbolic link, or onto a crate of the user's is refused and
 # changes nothing; a call brings the crates, the pages and the commit; a second call brings what is new, and removes a
-# crate that went, and no crate of the user's. Then, in a folder that `scripts/vendor.sh` has made, `rt ci` proves and runs
+# crate that went, and no crate of the user's; a library over `markdown_blocks` comes where it is named, and goes where it
+# no longer is. Then, in a folder that `scripts/vendor.sh` has made, `rt ci` proves and runs
 # the program of the README, and it prints what the README says: `rt ci` keeps what it has proved of the library in this
 # repository, and does not prove it again. `--copies` leaves the program out.
 set -euo pipefail
@@ -82,6 +83,21 @@ cmp -s "$own/crates/md_leaves/src/lib.rt" "$user/crates/md_leaves/src/lib.rt" ||
 grep -qx "commit $(git -C "$own" rev-parse HEAD) and changes that are not committed" "$copy/VENDORED" || fail "changes are not in VENDORED"
 [ -s "$user/crates/mine/src/lib.rt" ] || fail "the user's crate went"
 [ "$(grep -cx -e 'mine:' -e '# mine' "$user/crates.txt")" -eq 2 ] || fail "a line of the user went"
+passed=$((passed + 1))
+
+# A library more, which stays until others are named.
+for names in 'markdown_blocks markdown_inlines' ''; do
+    # shellcheck disable=SC2086
+    "$own/scripts/vendor.sh" "$user" $names >"$work/said"
+    [ -s "$user/crates/markdown_inlines/LICENSE" ] || fail "markdown_inlines is not there"
+    [ -s "$user/crates/md_inlines/src/lib.rt" ] || fail "md_inlines is not there"
+    [ "$(grep -c '^library markdown_' "$copy/VENDORED")" -eq 2 ] || fail "there are not two libraries"
+done
+"$own/scripts/vendor.sh" "$user" markdown_blocks >"$work/said"
+[ ! -e "$user/crates/md_inlines" ] || fail "a crate of a library that went is there"
+for name in md_leaves hoxalgurre markdown_none; do
+    ! "$own/scripts/vendor.sh" "$user" "$name" >"$work/said" 2>&1 || fail "$name is taken for a library"
+done
 passed=$((passed + 1))
 rm -rf "$own" "$user"
 if [ "${1:-}" = --copies ]; then

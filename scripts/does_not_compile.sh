@@ -6,6 +6,7 @@
 # prints what `crates/examples_api` does. The other drops it before that, which the borrow checker must refuse.
 set -euo pipefail
 cd "$(dirname "$0")/.."
+top=$PWD
 work=$(mktemp -d)
 trap 'rm -rf "$work"' EXIT
 mkdir "$work/crates"
@@ -38,7 +39,7 @@ PYTHON
 
 # Runs the copy without proof; what it prints goes to `said`, and what is said of it to `errors`.
 try() {
-    (cd "$work/crates/examples_api" && timeout 300 rt try --steps 1 >"$work/said" 2>"$work/errors" </dev/null) || true
+    (cd "$work/crates/examples_api" && timeout 300 "$top/scripts/rt.py" try --steps 1 >"$work/said" 2>"$work/errors" </dev/null) || true
 }
 
 write late

@@ -23,9 +23,9 @@ sys.dont_write_bytecode = True
 CRATES = ("hoxalgurre", "html_blocks", "md_program", "hoxalgurre_c")
 # The report that most likely changes, by the file of a wrong body.
 REPORTS = {"events": "events", "outline": "outline", "position": "outline", "headings": "headings", "labels": "labels",
-           "references": "labels", "layer": "links", "anchors": "links", "links": "links", "toc": "headings", "tree": "tree",
-           "spans": "outline", "meaning": "tree", "source": "tree", "builder": "tree", "tags": "html", "escape": "html", "ahead": "html", "render": "html",
-           "loose": "html"}
+           "references": "labels", "layer": "links", "anchors": "links", "links": "links", "toc": "headings",
+           "tree": "tree", "spans": "outline", "meaning": "tree", "source": "tree", "builder": "tree", "tags": "html",
+           "escape": "html", "ahead": "html", "render": "html", "loose": "html"}
 LEAST, LEAST_SCORE = 310, 97
 
 Mutant = namedtuple("Mutant", "number file comment old new")
@@ -156,7 +156,7 @@ def copied(work, found):
 def built(work, found):
     """The program with all wrong bodies."""
     copied(work, found)
-    ran = subprocess.run(["rt", "try", "--", "--version"], cwd=f"{work}/crates/hoxalgurre", capture_output=True, text=True,
+    ran = subprocess.run([os.path.abspath("scripts/rt.py"), "try", "--", "--version"], cwd=f"{work}/crates/hoxalgurre", capture_output=True, text=True,
                          stdin=subprocess.DEVNULL, env={**os.environ, "RT_ALLOW_C": "mutant"})
     if not os.path.isfile(f"{work}/kept"):
         sys.exit(f"mutants: no program is built\n{ran.stdout[-1000:]}\n{ran.stderr[-6000:]}")

@@ -15,6 +15,7 @@
 # At the end it says what it left out; only `.ci/run` tries everything.
 set -euo pipefail
 cd "$(dirname "$0")/.."
+top=$PWD
 since=${1:-HEAD}
 git rev-parse --verify --quiet "$since^{commit}" >/dev/null || { echo "usage: scripts/quick.sh [REV]" >&2; exit 2; }
 work=$(mktemp -d)
@@ -99,7 +100,7 @@ try_program() {
             data+=(--data "${file##*/}=data/${file##*/}")
         done
     fi
-    (cd "$crate" && rt try --steps 1 "${data[@]}" -- "${words[@]}" <"$input" >"$work/printed") || status=$?
+    (cd "$crate" && "$top/scripts/rt.py" try --steps 1 "${data[@]}" -- "${words[@]}" <"$input" >"$work/printed") || status=$?
     [ "$status" -eq "$wanted" ] && cmp "$work/printed" "$crate/stdout"
 }
 
@@ -112,7 +113,7 @@ try_rows() {
     done
     : >"$work/cases/references"
     echo references >"$work/cases/references.args"
-    (cd crates/test_bench && rt try --steps 1 --seconds 600 --cases "$work/cases") || true
+    (cd crates/test_bench && "$top/scripts/rt.py" try --steps 1 --seconds 600 --cases "$work/cases") || true
 }
 
 step scripts/counts.py
@@ -124,7 +125,7 @@ if [ -s "$work/proved" ]; then
         step try_program "$name"
     done
     for name in $(cat "$work/tests"); do
-        step env -C "crates/$name" rt try --test
+        step env -C "crates/$name" "$top/scripts/rt.py" try --test
     done
     step try_rows
     if [ "$(grep -cE '^[1-9][0-9]* tried, 0 wrong$' "$work/said")" -ne 3 ]; then

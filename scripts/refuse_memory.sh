@@ -5,9 +5,9 @@
 #
 # - Of `test_library`, those of one call of the library: `parse`, `parse_with`, `outline`, `outline_part`, `wrap::quote`,
 #   `wrap::item`, `wrap::footnote`, and the `run` of `blocks`, all on one text, those of `Parts` on another, and those of
-#   `parse_with` with the inline layer on one with each inline construct of GitHub. What the program asks for before and
-#   after the call is counted apart. A refused run ends with status 3 and prints nothing, and
-#   the last run prints what is given here. The states that take no memory answer while each request is refused.
+#   `parse_with` with the inline layer and of `html` on one with each inline construct of GitHub. What the program asks
+#   for before and after the call is counted apart. A refused run ends with status 3 and prints nothing, and the last run
+#   prints what is given here. The states that take no memory answer while each request is refused.
 # - Of `blocks`, `events`, `plain_blocks`, `plain_inlines` and `examples_references`, those of the whole program: on the
 #   texts of their stored runs, and the first two with the argument `alerts` on each begin of a text with a byte order
 #   mark, frontmatter, headings of both kinds, quotes, a break, nested lists, an alert with a fence, HTML, definitions, in
@@ -126,6 +126,32 @@ footnotes 1
 = m
 """
 
+MARKED_PAGE = """<ul>
+<li><input type="checkbox" disabled="" checked="" /> <em>a <strong>b</strong></em> <del>c</del> <code>d</code> \
+<a href="">ab:c</a> <a href="mailto:a@b.c">a@b.c</a> &lt;b c&gt; * &amp; <a href="http://www.a.co">www.a.co</a> \
+<a href="mailto:a@b.co">a@b.co</a><br />
+<a href="g" title="h*">e <em>f</em></a> <img src="j" alt="i" /><br />
+<a href="q" title="r&lt;">k</a> <sup><a href="#user-content-fn-m" id="user-content-fnref-m" data-footnote-ref="" \
+aria-describedby="footnote-label">1</a></sup> [n</li>
+</ul>
+<table>
+<thead>
+<tr>
+<th>o</th>
+<th>|p</th>
+</tr>
+</thead>
+</table>
+<section data-footnotes="" class="footnotes"><h2 id="footnote-label" class="sr-only">Footnotes</h2>
+<ol>
+<li id="user-content-fn-m">
+<p>s <a href="#user-content-fnref-m" data-footnote-backref="" aria-label="Back to content" \
+class="data-footnote-backref">\u21a9</a></p>
+</li>
+</ol>
+</section>
+""".encode()
+
 # The refused runs of the call with the inline layer that there are at least.
 LEAST_INLINES = 100
 
@@ -134,6 +160,7 @@ CALLS = {
     "parse": (TEXT_OUTLINE, b""),
     "parse_with": (TEXT_OUTLINE, b""),
     "inlines": (MARKED_OUTLINE, b""),
+    "html": (MARKED_PAGE, b""),
     "parts": (PARTS_OUTLINE, b""),
     "outline": (TEXT_OUTLINE, b""),
     "outline_part": (TEXT_OUTLINE, b""),

@@ -1,9 +1,11 @@
 #!/usr/bin/env python3
-"""Runs `rt` with these arguments, and takes the sum of a crate's files once: `scripts/rt.py ci`, or `check` in a crate.
+"""Runs `rt` with these arguments, and finds what is below a crate once: `scripts/rt.py ci`, or `check` in a crate.
 
-By this sum `rt` knows whether the build of a library is that of its files. Kits whose `rt ci` takes no names of crates
-take it again for each path in crates.txt from a crate to a library, which is millions of times in this repository. No
-proof depends on it. With another kit `rt` runs as it is.
+`rt` lists the libraries below a crate anew for each path in crates.txt that leads to them, of which there are millions in
+this repository. Kits whose `rt ci` takes no names of crates also take the sum of a crate's files anew for each, by which
+`rt` knows whether the build of a library is that of its files. Beside `rt try`, `rt` starts a check that proves nothing,
+for a hint where it ends first: `scripts/rt.py try` starts none. No proof depends on any of this. With another kit `rt`
+runs as it is.
 """
 import importlib.machinery
 import importlib.util
@@ -24,6 +26,18 @@ def loaded(path):
     return module
 
 
+def list_once(crate):
+    """Has each crate keep the list of those below it, which does not change once the crate is made."""
+    listed = crate.below
+
+    def below(self):
+        if "kept_below" not in vars(self):
+            self.kept_below = listed(self)
+        return [*self.kept_below]
+
+    crate.below = below
+
+
 def take_sums_once(crate):
     """Has each crate keep its sum."""
     taken = crate.stamp
@@ -38,11 +52,15 @@ def take_sums_once(crate):
 
 def main():
     rt = loaded(os.path.realpath(shutil.which("rt") or sys.exit("rt is not on the path")))
-    crate = getattr(getattr(rt, "rtlib", None), "Crate", None)
-    takes_names = re.search(r"rt ci .*NAME", getattr(rt, "__doc__", None) or "")
-    if takes_names or not hasattr(crate, "stamp") or not hasattr(rt, "main"):
+    library = getattr(rt, "rtlib", None)
+    crate = getattr(library, "Crate", None)
+    if not hasattr(crate, "stamp") or not hasattr(crate, "below") or not hasattr(rt, "main"):
         os.execvp("rt", ["rt", *sys.argv[1:]])
-    take_sums_once(crate)
+    list_once(crate)
+    if not re.search(r"rt ci .*NAME", rt.__doc__ or ""):
+        take_sums_once(crate)
+    if sys.argv[1:2] == ["try"] and hasattr(library, "RATTLE"):
+        library.RATTLE = shutil.which("true")
     return rt.main(sys.argv[1:])
 
 

@@ -66,7 +66,7 @@ def ended(texts: list[str], *limits: str) -> list[tuple[bool, bool]]:
         for at, text in enumerate(texts):
             Path(folder, str(at)).write_text(text)
         done = subprocess.run(
-            ["rt", "try", "--cases", folder, *limits],
+            [ROOT / "scripts/rt.py", "try", "--cases", folder, *limits],
             cwd=ROOT / "crates/test_cost", stdin=subprocess.DEVNULL, capture_output=True, text=True,
         )
     pattern = r"^case=(\d+) run=ended status=(\d+) runners=(\d)"

@@ -7,6 +7,10 @@ pub mod FlowTries
 pub mod LeafTried
 pub mod LineMet
 pub mod ContainersTried
+pub mod LeafCalls
+pub mod ConstructCalls
+pub mod FirstCalls
+pub mod FrontMet
 pub mod FlowSteps
 pub mod FlowReads
 pub mod LastLine
@@ -45,5 +49,6 @@ pub mod PartEvents
 pub mod PartNext
 pub mod PartWhole
 pub mod PartFront
+mod PlaceOnce
 mod PlacedParts
 mod PartWalk

@@ -57,9 +57,9 @@ use Rattle.proof_rows.specs.Valid.{AreOpen}
 use Rattle.markdown_blocks.specs.Fed.{fed, flow_begins, line_begins, tries_leaf}
 use Rattle.markdown_blocks.proofs.Attempts.{not-ended}
 use Rattle.markdown_blocks.proofs.FlowTries.{Continues, Ended, Tries, TriesLeft, called-low, tries-calls, tries-leaves}
-use Rattle.markdown_blocks.proofs.LeafTried.{FlowLeads, Follows_on, HasMet, IsFlow, IsPast, IsTriedAt, MeetsAfter}
-use Rattle.markdown_blocks.proofs.LeafTried.{MeetsAt, Tries_leaf, called-flow, flow-leads, flow-rest, frame_of, is_flow}
-use Rattle.markdown_blocks.proofs.LeafTried.{leads-tried, met-named, tried-after}
+use Rattle.markdown_blocks.proofs.LeafTried.{FlowLeads, Follows_on, HasMet, HasMetAt, IsFlow, IsPast, IsTriedAt}
+use Rattle.markdown_blocks.proofs.LeafTried.{MeetsAfter, MeetsAt, Tries_leaf, called-flow, flow-leads, flow-rest}
+use Rattle.markdown_blocks.proofs.LeafTried.{frame_of, front-met, is_flow, is_past, leads-tried, met-named, tried-after}
 use Rattle.markdown_blocks.proofs.LinesFed.{LineFed, leaf_after, line-fed, line_behaves, line_stop, none-or-ending}
 use Rattle.markdown_blocks.proofs.LinesFed.{open_after, text-within}
 
@@ -141,7 +141,7 @@ pub record InLeaf (under : Setting) (feed : Feed) (still : HeldLeaf) (t : State)
   pub nok : IsFlow f.nok
   pub past : IsPast f.ok
   pub o : Outcome
-  pub after : MeetsAfter f.nok still o
+  pub after : MeetsAfter under.options (feed f.point) f.nok still o
   pub tries : Tries under feed f o t v
 
 -- Where a run is on a line.
@@ -159,7 +159,8 @@ pub data OnLine (under : Setting) (feed : Feed) (still : HeldLeaf) (t : State) (
   HasOpened : plain t ≡ Next (s.Document document.ContainerNewAfter) → v.frames ≡ [] → v.flags.blank ≡ false →
       OnLine under feed still t v
   IsInLeaf : InLeaf under feed still t v → OnLine under feed still t v
-  InFlow : IsFlow t → v.frames ≡ [] → MeetsAt t v.flags.leaf still → OnLine under feed still t v
+  InFlow : IsFlow t → v.frames ≡ [] → MeetsAt under.options (feed v.point) t v.flags still →
+      OnLine under feed still t v
 
 -- Calls.
 
@@ -281,7 +282,10 @@ between-call : (under : Setting) (feed : Feed) (still : HeldLeaf) (v : World) �
     let x = flow_transition (s.Document d) (reading v) in OnLine under feed still x.to x.world
 between-call under feed still v kept rest none meets document.ContainersAfter is =
     InFlow (flow-front (is_some (asked_first (begun_line v.flags).leaf))) none
-    (inr (begun-met (not (nat_lt v.flags.continued (length v.flags.containers))) v.flags.leaf still meets.0))
+    (inr (
+      begun-met (not (nat_lt v.flags.continued (length v.flags.containers))) v.flags.leaf still meets.0,
+      front-met under.options (feed v.point) (begun_line v.flags) meets.1,
+    ))
 between-call under feed still v kept rest none meets document.ContainerNewBefore is =
     opens-call under feed still v kept rest none meets kind.BlockQuote _
 between-call under feed still v kept rest none meets document.ContainerNewBeforeNotBlockQuote is =
@@ -292,10 +296,10 @@ between-call under feed still v kept rest none meets d is = cc
 
 -- a state of flow
 flow-call : (under : Setting) (feed : Feed) (still : HeldLeaf) (v : World) → v.frames ≡ [] → IsRest v.scratch →
-    ((w : World) → length (feed w.point) ≤ any_size) → (x : Transition) → FlowLeads still (reading v) x →
-    OnLine under feed still x.to x.world
+    ((w : World) → length (feed w.point) ≤ any_size) → (x : Transition) →
+    FlowLeads under.options feed still (reading v) x → OnLine under feed still x.to x.world
 flow-call under feed still v none rest few x (Follows_on to frames meets) = InFlow to (frames ∙ none) meets
-flow-call under feed still v none rest few x (Tries_leaf start f ok nok past frames low to kept tried) =
+flow-call under feed still v none rest few x (Tries_leaf start f ok nok past frames low to kept point tried) =
     IsInLeaf (record {
       f = f;
       ok = ok;
@@ -304,9 +308,14 @@ flow-call under feed still v none rest few x (Tries_leaf start f ok nok past fra
       o = whole_outcome (line_behaves under) feed x.to (record x.world { frames = [] });
       after =
           subst
+          (λ (p : Point).
+          MeetsAfter under.options (feed p) f.nok still
+          (whole_outcome (line_behaves under) feed x.to (record x.world { frames = [] }))) (sym point)
+          (subst
           (λ (t : State).
-          MeetsAfter f.nok still (whole_outcome (line_behaves under) feed t (record x.world { frames = [] }))) (sym to)
-          (tried-after under feed x.world start f.nok still (subst IsRest (sym kept) rest) (few x.world) tried);
+          MeetsAfter under.options (feed x.world.point) f.nok still
+          (whole_outcome (line_behaves under) feed t (record x.world { frames = [] }))) (sym to)
+          (tried-after under feed x.world start f.nok still (subst IsRest (sym kept) rest) (few x.world) tried));
       tries = record {
         fs = [];
         frames = frames ∙ ap (λ (fs : List Frame). f ∷ fs) none;
@@ -405,7 +414,8 @@ line-calls under feed still t v t' v' follows kept at on c none = go on
         by c.name refl
         (flow-call under feed still v frames (flow-rest c.name v flow (subst Q c.names at)) few
         (flow_transition c.name (reading v))
-        (flow-leads still c.name (reading v) flow none (met-named t c.name v.flags.leaf still c.names meets)))
+        (flow-leads under.options feed still c.name (reading v) flow none
+        (met-named under.options (feed v.point) t c.name v.flags still c.names meets)))
 
 -- Ends of attempts.
 
@@ -504,16 +514,18 @@ left-none : (v : World) (f : Frame) (back : Bool) → (left v [] f back).frames 
 left-none v f true = refl
 left-none v f false = refl
 
-left-leaf : (v : World) (f : Frame) (back : Bool) → (left v [] f back).flags.leaf ≡ v.flags.leaf
-left-leaf v f true = refl
-left-leaf v f false = refl
+pub left-flags : (v : World) (outer : List Frame) (f : Frame) (back : Bool) → (left v outer f back).flags ≡ v.flags
+left-flags v outer f true = refl
+left-flags v outer f false = refl
 
 -- where a leaf has refused the line, it is met as before
 leaf-next : (under : Setting) (feed : Feed) (still : HeldLeaf) (f : Frame) (t : State) (v : World) (o : Outcome) →
-    IsEnd t → proceeds (line_behaves under) t (feed v.point) (here v) ≡ o → IsPast f.ok → MeetsAfter f.nok still o →
-    MeetsAt (next_of f t) v.flags.leaf still
+    IsEnd t → proceeds (line_behaves under) t (feed v.point) (here v) ≡ o → IsPast f.ok →
+    MeetsAfter under.options (feed f.point) f.nok still o →
+    MeetsAt under.options (feed (left v [] f (leads_back f t)).point) (next_of f t) v.flags still
 leaf-next under feed still f Ok v o end is past after = inl past
-leaf-next under feed still f Nok v o end is past after = subst (MeetsAfter f.nok still) (sym is) after
+leaf-next under feed still f Nok v o end is past after =
+    subst (MeetsAfter under.options (feed f.point) f.nok still) (sym is) after
 leaf-next under feed still f Error v o end is past after = absurd end
 leaf-next under feed still f (Next m) v o end is past after = absurd end
 leaf-next under feed still f (Retry m) v o end is past after = absurd end
@@ -582,10 +594,14 @@ line-leaves under feed still t v t' v' at on l = go on
         by (Ended end next new is) =
             InFlow (subst IsFlow (sym next) (flow-next a.f t a.ok a.nok))
             (ap (λ (w : World). w.frames) new ∙ left-none v a.f (leads_back a.f t))
-            (subst (λ (w : World). MeetsAt t' w.flags.leaf still) (sym new)
-            (subst (λ (m : State). MeetsAt m (left v [] a.f (leads_back a.f t)).flags.leaf still) (sym next)
-            (subst (λ (on : HeldLeaf). MeetsAt (next_of a.f t) on still) (sym (left-leaf v a.f (leads_back a.f t)))
+            (subst (λ (w : World). MeetsAt under.options (feed w.point) t' w.flags still) (sym new)
+            (subst (λ (m : State). MeetsAt under.options (feed before.point) m before.flags still) (sym next)
+            (subst (λ (g : Flags). MeetsAt under.options (feed before.point) (next_of a.f t) g still)
+            (sym (left-flags v [] a.f (leads_back a.f t)))
             (leaf-next under feed still a.f t v a.o end is a.past a.after))))
+          where
+            before : World
+            before = left v [] a.f (leads_back a.f t)
 
 -- Lines.
 
@@ -594,6 +610,19 @@ abbrev pub still_after : ParseOptions → List ℕ → Point → ℕ → HeldLea
 still_after options bytes p n = leaf_after held_leaf.None (take n (text_rows options bytes p))
 
 -- the next begins
+pub next-line : (t : State) (v : World) (t' : State) (v' : World) → (c : Calls FlowStep true t v t' v') →
+    c.name ≡ s.Document document.FlowEnd → looks v ≡ Some 10 → t' ≡ Next (s.Document document.ContainerExistingBefore)
+next-line t v t' v' c name ten = step.to_is ∙ ap (λ (o : Option ℕ). (flow_end_code over o).to) ten
+  where
+    over : World
+    over = closed (reading v) (kept_containers v.flags) v.flags.line_end
+
+    P : StateName → Type 0
+    P m = FlowStep m (reading v) t' v'
+
+    step : FlowStep (s.Document document.FlowEnd) (reading v) t' v'
+    step = subst P name c.step
+
 line-begins : (options : ParseOptions) (bytes : List ℕ) (p : Point) (n : ℕ) (feed : Feed) (t : State) (v : World)
     (t' : State) (v' : World) → (c : Calls FlowStep true t v t' v') → c.name ≡ s.Document document.FlowEnd →
     looks v ≡ Some 10 → LineFed bytes options p (suc n) v' →
@@ -612,7 +641,7 @@ line-begins options bytes p n feed t v t' v' c name ten is =
     step = subst P name c.step
 
     to : t' ≡ Next (s.Document document.ContainerExistingBefore)
-    to = step.to_is ∙ ap (λ (o : Option ℕ). (flow_end_code over o).to) ten
+    to = next-line t v t' v' c name ten
 
     new : v' ≡ (flow_end_code over (Some 10)).world
     new = step.new_is ∙ ap (λ (o : Option ℕ). (flow_end_code over o).world) ten
@@ -659,24 +688,40 @@ run-on options bytes p small feed follows to new (ThenCalls t v t' v' run c) =
         (line-begins options bytes p n feed t v t' v' c ending.0 ending.1
         (line-fed bytes options p small t v t' v' run c one))
 
--- After the containers of a line.
-pub containers-met : (under : Setting) (feed : Feed) (still : HeldLeaf) (t : State) (v : World) →
-    OnLine under feed still t v → plain t ≡ Next (s.Document document.ContainersAfter) → Meets v.flags still
-containers-met under feed still t v on to = go on
+-- Before a container that may open, and after the containers of a line.
+between-high : (d : DocumentState) → is_between d ≡ true → flow_table_scheme.level (s.Document d) ≤ 2 → ⊥
+between-high document.ContainersAfter is low = absurd (omega (arith, low))
+between-high document.ContainerNewBefore is low = absurd (omega (arith, low))
+between-high document.ContainerNewBeforeNotBlockQuote is low = absurd (omega (arith, low))
+between-high document.ContainerNewBeforeNotList is low = absurd (omega (arith, low))
+between-high d is low = cc
+
+between-flow : (d : DocumentState) → is_between d ≡ true → is_flow (s.Document d) ≡ true → ⊥
+between-flow document.ContainersAfter is e = cc
+between-flow document.ContainerNewBefore is e = cc
+between-flow document.ContainerNewBeforeNotBlockQuote is e = cc
+between-flow document.ContainerNewBeforeNotList is e = cc
+between-flow d is e = cc
+
+pub between-met : (under : Setting) (feed : Feed) (still : HeldLeaf) (t : State) (v : World) →
+    OnLine under feed still t v → (d : DocumentState) → is_between d ≡ true → plain t ≡ Next (s.Document d) →
+    Meets v.flags still
+between-met under feed still t v on d may to = go on
   where
     high : state_level flow_table_scheme t ≤ 2 → ⊥
-    high low = let le = called-low t (s.Document document.ContainersAfter) to low in absurd (omega (arith, le))
+    high low = between-high d may (called-low t (s.Document d) to low)
 
     go : OnLine under feed still t v → Meets v.flags still
     go (Asks done cs other frames are continued keeps) = keeps-meets v.flags still keeps
     go (HasAsked done cs other frames are continued keeps) = keeps-meets v.flags still keeps
     go (Between d other is frames meets) = meets
-    go (HasOpened other frames blank) = let bad = sym to ∙ other in cc
+    go (HasOpened other frames blank) =
+        let same : d ≡ document.ContainerNewAfter = let bad = sym to ∙ other in cc in
+        let bad : false ≡ true = ap is_between (sym same) ∙ may in cc
     go (IsAsking a) = absurd (high a.tries.low)
     go (IsOpening a) = absurd (high a.tries.low)
     go (IsInLeaf a) = absurd (high a.tries.low)
-    go (InFlow is frames meets) =
-        let bad : false ≡ true = called-flow t (s.Document document.ContainersAfter) to is in cc
+    go (InFlow is frames meets) = absurd (between-flow d may (called-flow t (s.Document d) to is))
 
 -- Where a leaf is tried.
 
@@ -708,24 +753,26 @@ between-other document.ContainerNewBeforeNotBlockQuote is e = cc
 between-other document.ContainerNewBeforeNotList is e = cc
 between-other d is e = cc
 
-pub leaf-tried : (under : Setting) (feed : Feed) (still : HeldLeaf) (t : State) (v : World) (t' : State) (v' : World) →
-    OnLine under feed still t v → (c : Calls FlowStep true t v t' v') → feeds c.name (looks v) ≡ 0 →
-    tries_leaf c.name ≡ true → (l : LeafName) → t' ≡ Retry (first_state l) → IsTriedAt l (reading v) v' still
-leaf-tried under feed still t v t' v' on c none tries l to = go on
+-- what the line has met there
+pub met-there : (under : Setting) (feed : Feed) (still : HeldLeaf) (t : State) (v : World) → OnLine under feed still t v →
+    (name : StateName) → plain t ≡ Next name → tries_leaf name ≡ true →
+    (is_past name ≡ true) ⊎ HasMetAt under.options (feed v.point) name v.flags still
+met-there under feed still t v on name to tries = go on
   where
+    Met : Type 0
+    Met = (is_past name ≡ true) ⊎ HasMetAt under.options (feed v.point) name v.flags still
+
     P : StateName → Type 0
     P m = tries_leaf m ≡ true
 
     -- no other state is called here
-    other : (d : DocumentState) → plain t ≡ Next (s.Document d) → (tries_leaf (s.Document d) ≡ true → ⊥) →
-        IsTriedAt l (reading v) v' still
-    other d named not =
-        let same : c.name ≡ s.Document d = let e = c.names in cc in absurd (not (subst P same tries))
+    other : (d : DocumentState) → plain t ≡ Next (s.Document d) → (tries_leaf (s.Document d) ≡ true → ⊥) → Met
+    other d named not = let same : name ≡ s.Document d = let e = to in cc in absurd (not (subst P same tries))
 
-    low : state_level flow_table_scheme t ≤ 2 → IsTriedAt l (reading v) v' still
-    low le = absurd (tries-high c.name tries (called-low t c.name c.names le))
+    low : state_level flow_table_scheme t ≤ 2 → Met
+    low le = absurd (tries-high name tries (called-low t name to le))
 
-    go : OnLine under feed still t v → IsTriedAt l (reading v) v' still
+    go : OnLine under feed still t v → Met
     go (Asks done cs named frames are continued keeps) = other document.ContainerExistingBefore named (λ e. cc)
     go (HasAsked done cs named frames are continued keeps) = other document.ContainerExistingAfter named (λ e. cc)
     go (Between d named is frames meets) = other d named (between-other d is)
@@ -733,9 +780,20 @@ leaf-tried under feed still t v t' v' on c none tries l to = go on
     go (IsAsking a) = low a.tries.low
     go (IsOpening a) = low a.tries.low
     go (IsInLeaf a) = low a.tries.low
-    go (InFlow is frames meets) =
-        subst (λ (w : World). IsTriedAt l (reading v) w still) (sym c.step.new_is)
-        (leads-tried still (reading v) (flow_transition c.name (reading v)) l
-        (flow-leads still c.name (reading v) (tries-flow c.name tries) none
-        (met-named t c.name v.flags.leaf still c.names meets))
-        (sym c.step.to_is ∙ to))
+    go (InFlow is frames meets) = met-named under.options (feed v.point) t name v.flags still to meets
+
+-- and what a call leads to
+pub flow-led : (under : Setting) (feed : Feed) (still : HeldLeaf) (t : State) (v : World) (t' : State) (v' : World) →
+    OnLine under feed still t v → (c : Calls FlowStep true t v t' v') → tries_leaf c.name ≡ true →
+    FlowLeads under.options feed still (reading v) (flow_transition c.name (reading v))
+flow-led under feed still t v t' v' on c tries =
+    flow-leads under.options feed still c.name (reading v) (tries-flow c.name tries)
+    (tries-none c.name (looks v) tries) (met-there under feed still t v on c.name c.names tries)
+
+pub leaf-tried : (under : Setting) (feed : Feed) (still : HeldLeaf) (t : State) (v : World) (t' : State) (v' : World) →
+    OnLine under feed still t v → (c : Calls FlowStep true t v t' v') → tries_leaf c.name ≡ true → (l : LeafName) →
+    t' ≡ Retry (first_state l) → IsTriedAt l (reading v) v' still
+leaf-tried under feed still t v t' v' on c tries l to =
+    subst (λ (w : World). IsTriedAt l (reading v) w still) (sym c.step.new_is)
+    (leads-tried under.options feed still (reading v) (flow_transition c.name (reading v)) l
+    (flow-led under feed still t v t' v' on c tries) (sym c.step.to_is ∙ to))

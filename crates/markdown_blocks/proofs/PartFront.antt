@@ -370,9 +370,6 @@ begun-ahead options text begun start taken may =
 module _ (options : ParseOptions) (text : List ℕ) (begun : Bool) (start : Option Point) (front : List Event)
     (following : Option Point) (p : Point) (ahead : AreAhead options text begun start front following)
     (none : front ≡ []) (is : following ≡ Some p) where
-  pub next-reads : MayRead options text p
-  next-reads = ahead.may p is
-
   module _ (part : Part) (next : Option Point) (has : HasPart options text p part next) where
     pub next-events : events_left options text begun start ≡ part.events.items ++ events_after options text next
     next-events =
@@ -392,20 +389,3 @@ module _ (options : ParseOptions) (text : List ℕ) (begun : Bool) (start : Opti
           (subst (λ (l : List Event). Covers (place_left text begun start) (pieces l) (point_after text following))
           none ahead.laid.covers)) has.laid.covers;
     }
-
--- there is none
-module _ (options : ParseOptions) (text : List ℕ) (begun : Bool) (start : Option Point) (front : List Event)
-    (following : Option Point) (ahead : AreAhead options text begun start front following) (none : front ≡ [])
-    (is : following ≡ None) where
-  pub end-none : events_left options text begun start ≡ []
-  end-none =
-      ahead.events ∙ ap₂ (λ (l : List Event) (o : Option Point). l ++ events_after options text o) none is
-
-  pub end-labels : labels_left options text begun start ≡ no_labels
-  end-labels = ahead.labels ∙ ap (labels_after options text) is
-
-  pub end-place : same_place (place_left text begun start) (end_point text) ≡ true
-  end-place =
-      subst (λ (o : Option Point). same_place (place_left text begun start) (point_after text o) ≡ true) is
-      (subst (λ (l : List Event). Covers (place_left text begun start) (pieces l) (point_after text following)) none
-      ahead.laid.covers)

@@ -131,12 +131,6 @@ holds-later e es inside begins =
     ∙ ap (λ (x : Bool). cond x false (begins_chunk e es || holds_chunk es)) inside
     ∙ ap (λ (x : Bool). x || holds_chunk es) begins
 
--- and where the part ends there is none
-holds-none : (e : Event) (es : List Event) → (is_part e.name && is_exit e.kind) ≡ true →
-    holds_chunk (e ∷ es) ≡ false
-holds-none e es ends =
-    holds-next e es ∙ ap (λ (x : Bool). cond x false (begins_chunk e es || holds_chunk es)) ends
-
 -- Parts.
 
 -- a part that begins is one of the list
@@ -282,11 +276,6 @@ holds-later-at [] d some inside begins = absurd (omega arith)
 holds-later-at (e ∷ es) d some inside begins =
     holds-later e es inside (ap (begins_chunk e) (sym (take_rest (e ∷ es) 1)) ∙ begins)
     ∙ ap holds_chunk (sym (take_rest (e ∷ es) 1))
-
-pub holds-none-at : (left : List Event) (d : Event) → 0 < length left →
-    (is_part (get_or left 0 d).name && is_exit (get_or left 0 d).kind) ≡ true → holds_chunk left ≡ false
-holds-none-at [] d some ends = absurd (omega arith)
-holds-none-at (e ∷ es) d some ends = holds-none e es ends
 
 pub places-next : (left : List Event) (d : Event) (last : Option Event) (have new all : List PartPlace) →
     0 < length left → new ≡ have ++ places_at last (get_or left 0 d) (take (length left - 1) (drop 1 left)) →

@@ -11,20 +11,21 @@ use Rattle.md_engine.specs.declared.state.Name.{Name as StateName}
 use Rattle.md_engine.specs.declared.state.Name.TheVariants as s
 use Rattle.md_engine.specs.declared.state.content.State.TheVariants as content
 use Rattle.md_engine.specs.declared.state.document.State.TheVariants as document
+use Rattle.md_engine.specs.declared.state.flow.State.TheVariants as flow
 use Rattle.md_engine.specs.declared.state.State.{State}
 use Rattle.md_engine.specs.declared.state.State.TheVariants.{Next, Ok, Retry}
 use Rattle.md_engine.specs.declared.tokenizer.container.name.ContainerKind.{ContainerKind}
 use Rattle.md_engine.specs.Run.{Calls, Runs, plain, reading as seeing}
 use Rattle.md_engine.specs.Scheme.{valid}
 use Rattle.md_engine.specs.TextFeed.{text_feed}
-use Rattle.md_engine.specs.World.{Flags, Setting, World, looks}
+use Rattle.md_engine.specs.World.{Flags, Setting, World}
 use Rattle.md_engine.proofs.Keeps.{runs-setting}
 use Rattle.std.proofs.lemmas.List.{length-map}
 use Rattle.md_meaning.specs.Preamble.{rest_at}
 use Rattle.md_meaning.specs.Rest.{Rest}
 use Rattle.md_events.specs.Events.Spelled.{Reading, read, unread}
 use Rattle.md_events.specs.Spaces.{IsRest}
-use Rattle.md_flow.specs.LineRule.{first_state, further_state, opener_state}
+use Rattle.md_flow.specs.LineRule.{IsMet, IsMetFirst, first_state, further_state, opener_state}
 use Rattle.md_meaning.specs.State.{At, Container, Leaf, NoLeaf, Path, spot}
 use Rattle.md_meaning.specs.Step.{spot_of, step, steps}
 use Rattle.md_meaning.specs.Texts.{split_lines}
@@ -33,7 +34,8 @@ use Rattle.proof_frame.specs.Change.{open_following}
 use Rattle.proof_frame.specs.Closed.{close_containers}
 use Rattle.proof_frame.specs.HeldLeaf.{kind_of_leaf, met_by}
 use Rattle.proof_frame.specs.LeafName.{LeafName}
-use Rattle.markdown_blocks.specs.Fed.{AfterLines, FlowRan, IsAtRest, IsFurtherMet, IsLeafMet, IsLineMet, IsOpenerMet}
+use Rattle.markdown_blocks.specs.Fed.{AfterLines, FlowRan, IsAtRest, IsFrontMet, IsFrontRefused, IsFurtherMet}
+use Rattle.markdown_blocks.specs.Fed.{IsLeafMet, IsLineMet, IsOpenerMet}
 use Rattle.markdown_blocks.specs.Fed.{before_opener, fed, flow_begins, last_leaves, line_begins, path_after, rests_from}
 use Rattle.markdown_blocks.specs.Fed.{tries_leaf}
 use Rattle.proof_rows.specs.Fronted.{rest_from}
@@ -45,9 +47,11 @@ use Rattle.md_registry.specs.OpenSpan.{IsBuiltLeaf}
 use Rattle.md_registry.specs.States.{FlowStep, flow_table_scheme}
 use Rattle.proof_rows.specs.TextRows.{text_rows, text_setting}
 use Rattle.markdown_blocks.proofs.ContainersTried.{further-tried, opener-rest, opener-tried}
-use Rattle.markdown_blocks.proofs.LeafTried.{HasMet, IsAskedAt, IsTriedAt, asked-leaf, flow-rest}
-use Rattle.markdown_blocks.proofs.LineMet.{Meets, OnLine, containers-met, leaf-tried, run-on, still_after, tries-flow}
-use Rattle.markdown_blocks.proofs.LineMet.{tries-none}
+use Rattle.markdown_blocks.proofs.FirstCalls.{IsCalledAt, placed-called, placed-on}
+use Rattle.markdown_blocks.proofs.FrontMet.{IsStill, asked-front, first-rest, further-rest, opens-rest, tried-front}
+use Rattle.markdown_blocks.proofs.LeafTried.{HasMet, IsAskedAt, IsTriedAt, asked-leaf, flow-rest, met-before}
+use Rattle.markdown_blocks.proofs.LineMet.{Meets, OnLine, between-met, leaf-tried, met-there, run-on, still_after}
+use Rattle.markdown_blocks.proofs.LineMet.{tries-flow}
 use Rattle.markdown_blocks.proofs.LinesFed.{LineFed, leaf_after, line-fed, lines-fed, open_after, text-follows_it}
 use Rattle.markdown_blocks.proofs.LinesFed.{text-within}
 use Rattle.proof_rows.proofs.StepAfter.{containers-step, plain-step}
@@ -165,10 +169,6 @@ plain-steps options a (r ∷ rs) built plain =
     plain-steps options (step options a r) rs built (plain-step options a r built plain)
 
 -- The leaf that is open after so many lines is held so.
-record IsStill (options : ParseOptions) (bytes : List ℕ) (p : Point) (n : ℕ) : Type 0 where
-  same : kind_of_leaf (spot (path_after options bytes p n)).leaf ≡ still_after options bytes p n
-  built : IsBuiltLeaf (spot (path_after options bytes p n)).leaf
-
 is-still : (bytes : List ℕ) (options : ParseOptions) (p : Point) (n : ℕ) → length bytes < 2 ^ 61 →
     IsWithoutMdx options → p.index ≤ length bytes → p.vs ≡ 0 → 1 ≤ p.column → IsStill options bytes p n
 is-still bytes options p n small built index whole column =
@@ -219,7 +219,9 @@ module _ (bytes : List ℕ) (options : ParseOptions) (p : Point) (small : length
   lines-met : IsWithoutMdx options → p.index ≤ length bytes → p.vs ≡ 0 → 1 ≤ p.column →
       call.name ≡ s.Document document.ContainersAfter → IsLineMet bytes options p count v
   lines-met built index whole column name =
-      go (containers-met under (text_feed under) (still_after options bytes p count) t v on-line (named _ name))
+      go
+      (between-met under (text_feed under) (still_after options bytes p count) t v on-line document.ContainersAfter refl
+      (named _ name))
     where
       at : valid flow_table_scheme v (Next (s.Document document.ContainersAfter))
       at = valid-at (s.Document document.ContainersAfter) name
@@ -249,28 +251,19 @@ module _ (bytes : List ℕ) (options : ParseOptions) (p : Point) (small : length
         holds = (none, refl);
       }
 
-  -- where a leaf is tried
-  leaves-met : IsWithoutMdx options → p.index ≤ length bytes → p.vs ≡ 0 → 1 ≤ p.column →
-      tries_leaf call.name ≡ true → (l : LeafName) → t' ≡ Retry (first_state l) →
-      IsLeafMet bytes options p count l v'
-  leaves-met built index whole column tries l to = go tried.met tried.asked
+  is-it : IsWithoutMdx options → p.index ≤ length bytes → p.vs ≡ 0 → 1 ≤ p.column → IsStill options bytes p count
+  is-it built index whole column = is-still bytes options p count small built index whole column
+
+  -- where what the line meets is known, the first state of a leaf may be called
+  leaf-at : IsStill options bytes p count → (l : LeafName) (w : World) → IsAtRest w →
+      HasMet w.flags.leaf (still_after options bytes p count) → IsAskedAt (first_state l) w.flags.leaf →
+      IsLeafMet bytes options p count l w
+  leaf-at is l w ready = go
     where
-      tried : IsTriedAt l (seeing v) v' (still_after options bytes p count)
-      tried =
-          leaf-tried under (text_feed under) (still_after options bytes p count) t v t' v' on-line call
-          (tries-none call.name (looks v) tries) tries l to
-
-      ready : IsAtRest v'
-      ready =
-          at-rest (flow-rest call.name v (tries-flow call.name tries) (valid-at call.name refl)) tried.scratch
-
-      is : IsStill options bytes p count
-      is = is-still bytes options p count small built index whole column
-
       by : (all : Bool) (open_leaf : Leaf) →
           (open_leaf ≡ (spot (path_after options bytes p count)).leaf) ⊎ (open_leaf ≡ NoLeaf) → IsBuiltLeaf open_leaf →
-          v'.flags.leaf ≡ met_by all (kind_of_leaf open_leaf) → IsAskedAt (first_state l) v'.flags.leaf →
-          IsLeafMet bytes options p count l v'
+          w.flags.leaf ≡ met_by all (kind_of_leaf open_leaf) → IsAskedAt (first_state l) w.flags.leaf →
+          IsLeafMet bytes options p count l w
       by all open_leaf which may holds at = record {
         ready = ready;
         all = all;
@@ -281,12 +274,24 @@ module _ (bytes : List ℕ) (options : ParseOptions) (p : Point) (small : length
         asked = asked-leaf l all open_leaf (subst (IsAskedAt (first_state l)) holds at);
       }
 
-      go : HasMet v'.flags.leaf (still_after options bytes p count) → IsAskedAt (first_state l) v'.flags.leaf →
-          IsLeafMet bytes options p count l v'
+      go : HasMet w.flags.leaf (still_after options bytes p count) → IsAskedAt (first_state l) w.flags.leaf →
+          IsLeafMet bytes options p count l w
       go (inl (all, met)) at =
           by all (spot (path_after options bytes p count)).leaf (inl refl) is.built (met ∙ ap (met_by all) (sym is.same))
           at
       go (inr none) at = by true NoLeaf (inr refl) tt none at
+
+  -- where a leaf is tried
+  leaves-met : IsWithoutMdx options → p.index ≤ length bytes → p.vs ≡ 0 → 1 ≤ p.column →
+      tries_leaf call.name ≡ true → (l : LeafName) → t' ≡ Retry (first_state l) →
+      IsLeafMet bytes options p count l v'
+  leaves-met built index whole column tries l to =
+      leaf-at (is-it built index whole column) l v'
+      (at-rest (flow-rest call.name v (tries-flow call.name tries) (valid-at call.name refl)) tried.scratch) tried.met
+      tried.asked
+    where
+      tried : IsTriedAt l (seeing v) v' (still_after options bytes p count)
+      tried = leaf-tried under (text_feed under) (still_after options bytes p count) t v t' v' on-line call tries l to
 
   -- where a container is tried
   openers-met : (k : ContainerKind) → call.name ≡ before_opener k → t' ≡ Retry (opener_state k) → IsOpenerMet k v'
@@ -313,6 +318,66 @@ module _ (bytes : List ℕ) (options : ParseOptions) (p : Point) (small : length
         held = tried.held;
         column = tried.column;
       }
+
+  -- where a first state is called
+  is-called : IsCalledAt (still_after options bytes p count) call.name v.flags v.point
+  is-called =
+      placed-called (still_after options bytes p count) t v
+      (placed-on options bytes p small (text_feed under) (text-follows_it bytes options p small) t v before) call.name
+      call.names
+
+  resting : IsRest v.scratch → IsAtRest v
+  resting rest = record { rest = rest; whole = is-whole }
+
+  leaves-called : IsWithoutMdx options → p.index ≤ length bytes → p.vs ≡ 0 → 1 ≤ p.column → (l : LeafName) →
+      call.name ≡ first_state l → IsLeafMet bytes options p count l v
+  leaves-called built index whole column l name =
+      let known = is-called in let at = known.leaf l name in
+      leaf-at (is-it built index whole column) l v (resting (first-rest l v (valid-at (first_state l) name))) at.0
+      (subst (λ (m : StateName). IsAskedAt m v.flags.leaf) name at.1)
+
+  openers-called : (k : ContainerKind) → call.name ≡ opener_state k → IsOpenerMet k v
+  openers-called k name =
+      let known = is-called in let at = known.opener k name in
+      record {
+        ready = resting (opens-rest k v (valid-at (opener_state k) name));
+        asked = at.asked;
+        column = at.column;
+      }
+
+  further-called : (c : Container) → call.name ≡ further_state c → IsFurtherMet c v
+  further-called c name =
+      let known = is-called in let at = known.further c name in
+      record {
+        ready = resting (further-rest c v (valid-at (further_state c) name));
+        container = at.container;
+        state = at.state;
+        held = at.held;
+        column = at.column;
+      }
+
+  -- where a leaf is asked first
+  asked-met : IsWithoutMdx options → p.index ≤ length bytes → p.vs ≡ 0 → 1 ≤ p.column →
+      call.name ≡ s.Document document.FlowInside → IsFrontMet bytes options p count v (IsMetFirst v)
+  asked-met built index whole column name =
+      let at = met-before under.options (text_feed under v.point) (s.Document document.FlowInside) v.flags
+      (still_after options bytes p count) refl
+      (met-there under (text_feed under) (still_after options bytes p count) t v on-line
+      (s.Document document.FlowInside) (named (s.Document document.FlowInside) name) refl) in
+      asked-front bytes options p count (is-it built index whole column) v
+      (resting (flow-rest (s.Document document.FlowInside) v refl (valid-at (s.Document document.FlowInside) name))) at.1
+      at.0
+
+  -- and where all are tried
+  tried-met : IsWithoutMdx options → p.index ≤ length bytes → p.vs ≡ 0 → 1 ≤ p.column → call.name ≡ s.Flow flow.Start →
+      IsFrontMet bytes options p count v (IsMet v) ⊎ IsFrontRefused bytes options p count v
+  tried-met built index whole column name =
+      let at = met-before under.options (text_feed under v.point) (s.Flow flow.Start) v.flags
+      (still_after options bytes p count) refl
+      (met-there under (text_feed under) (still_after options bytes p count) t v on-line (s.Flow flow.Start)
+      (named (s.Flow flow.Start) name) refl) in
+      tried-front bytes options p count (is-it built index whole column) v
+      (resting (flow-rest (s.Flow flow.Start) v refl (valid-at (s.Flow flow.Start) name))) at.0 at.1
 
   -- where the first state of a line of text is called
   texts-begin : call.name ≡ s.Content content.ChunkStart → IsRest v.scratch × (v.setting.limit ≡ length v.setting.bytes)
@@ -344,4 +409,17 @@ flow-ran bytes options p end at small run ok none done = record {
       λ t v t' v' before call k name to. openers-met bytes options p small t v t' v' before call k name to;
   further_met =
       λ t v t' v' before call name c to. further-met bytes options p small t v t' v' before call name c to;
+  leaves_called =
+      λ built index whole column t v t' v' before call l name. leaves-called bytes options p small t v t' v' before call
+      built index whole column l name;
+  openers_called =
+      λ t v t' v' before call k name. openers-called bytes options p small t v t' v' before call k name;
+  further_called =
+      λ t v t' v' before call c name. further-called bytes options p small t v t' v' before call c name;
+  asked_met =
+      λ built index whole column t v t' v' before call name. asked-met bytes options p small t v t' v' before call built
+      index whole column name;
+  tried_met =
+      λ built index whole column t v t' v' before call name. tried-met bytes options p small t v t' v' before call built
+      index whole column name;
 }

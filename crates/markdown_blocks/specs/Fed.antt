@@ -1,24 +1,31 @@
 -- What is between two lines while flow reads a text: whenever a line has been fed, what the tokenizer holds represents
 -- what is open by the line definition.
 use Rattle.std.specs.Prelude.{◌≡◌, ◌⊎◌, ℕ, suc, ◌+◌, ◌<◌, ◌≤◌, Bool, true, false, List, [], ◌∷◌, length, map, take, drop}
+use Rattle.std.specs.Prelude.{None}
 use Rattle.md_engine.specs.declared.configuration.ParseOptions.{ParseOptions}
 use Rattle.md_engine.specs.declared.event.Point.{Point}
 use Rattle.md_engine.specs.declared.state.Name.{Name as StateName}
 use Rattle.md_engine.specs.declared.state.Name.TheVariants as s
 use Rattle.md_engine.specs.declared.state.content.State.TheVariants as content
 use Rattle.md_engine.specs.declared.state.document.State.TheVariants as document
+use Rattle.md_engine.specs.declared.state.flow.State.TheVariants as flow
 use Rattle.md_engine.specs.declared.state.State.{State}
 use Rattle.md_engine.specs.declared.state.State.TheVariants.{Next, Retry}
 use Rattle.md_engine.specs.declared.tokenizer.container.name.ContainerKind.{ContainerKind}
 use Rattle.md_engine.specs.declared.tokenizer.container.name.ContainerKind.TheVariants as kind
+use Rattle.md_engine.specs.Meaning.{Cell}
 use Rattle.md_engine.specs.Run.{Calls, Runs, Step}
 use Rattle.md_engine.specs.Run.Runs.{Stays, ThenCalls, ThenLeaves}
+use Rattle.md_engine.specs.TextFeed.{text_feed}
 use Rattle.md_engine.specs.World.{World, container_of, fresh, looks, reads_to}
+use Rattle.md_exact.specs.Places.{TextLine}
 use Rattle.md_meaning.specs.Preamble.{rest_at}
 use Rattle.md_meaning.specs.Rest.{Rest}
 use Rattle.md_events.specs.Events.Spelled.{Reading, read, unread}
 use Rattle.md_events.specs.Spaces.{IsRest}
-use Rattle.md_flow.specs.LineRule.{IsAsked, IsHeldAs, IsOpen, first_state, further_state, opener_state}
+use Rattle.md_flow.specs.LineRule.{IsAsked, IsHeldAs, IsMet, IsMetFirst, IsNext, IsOpen, first_state, further_state}
+use Rattle.md_flow.specs.LineRule.{is_asked_first, opener_state}
+use Rattle.md_meaning.specs.Leaves.{is_continued}
 use Rattle.md_meaning.specs.State.{At, Container, Leaf, NoLeaf, Path, spot}
 use Rattle.md_meaning.specs.Step.{spot_of, steps}
 use Rattle.md_meaning.specs.Texts.{split_lines}
@@ -33,7 +40,7 @@ use Rattle.proof_rows.specs.Valid.{Represents}
 use Rattle.md_registry.specs.FlowRule.{feeds}
 use Rattle.md_registry.specs.OpenSpan.{IsBuiltLeaf}
 use Rattle.md_registry.specs.States.{FlowStep}
-use Rattle.proof_rows.specs.TextRows.{text_rows}
+use Rattle.proof_rows.specs.TextRows.{text_rows, text_setting}
 use Rattle.proof_frame.specs.Closed.{close_containers}
 
 -- how many lines a run has fed
@@ -151,6 +158,33 @@ pub record IsFurtherMet (c : Container) (w : World) : Type 0 where
   pub held : IsHeldAs container w.flags.asked
   pub column : w.flags.asked_column ≡ w.point.column
 
+-- Where the leaf of a line begins.
+
+-- The tokenizer has what the calls there require: nothing is known to be blank, and the line, before which so many were
+-- fed, has met a leaf of which this holds: that which was open before it, or none where a container has opened.
+pub record IsFrontMet (bytes : List ℕ) (options : ParseOptions) (p : Point) (n : ℕ) (w : World)
+    (Holds : Bool → Leaf → Type 0) : Type 0 where
+  pub ready : IsAtRest w
+  pub blank : w.flags.blank ≡ false
+  pub all : Bool
+  pub open_leaf : Leaf
+  pub is : (open_leaf ≡ (spot (path_after options bytes p n)).leaf) ⊎ (open_leaf ≡ NoLeaf)
+  pub built : IsBuiltLeaf open_leaf
+  pub holds : Holds all open_leaf
+
+-- Or the leaf that was open before the line was asked first, and has refused it: no rest of a line that is next continues
+-- it.
+pub record IsFrontRefused (bytes : List ℕ) (options : ParseOptions) (p : Point) (n : ℕ) (w : World) : Type 0 where
+  pub ready : IsAtRest w
+  pub open_leaf : Leaf
+  pub is : open_leaf ≡ (spot (path_after options bytes p n)).leaf
+  pub built : IsBuiltLeaf open_leaf
+  pub holds : w.flags.leaf ≡ kind_of_leaf open_leaf
+  pub first : is_asked_first open_leaf ≡ true
+  pub refused : (line : TextLine) (r : Rest) (stop : List Cell) →
+      IsNext bytes line r w.point (text_feed (text_setting bytes options p) w.point) stop →
+      is_continued options open_leaf r ≡ None
+
 -- Flow has read a text, from a point on, and has become this.
 pub record FlowRan (bytes : List ℕ) (options : ParseOptions) (p : Point) (end : State) (at : World) : Type 0 where
   pub run : Runs FlowStep true line_begins (flow_begins bytes options p) end at
@@ -191,3 +225,31 @@ pub record FlowRan (bytes : List ℕ) (options : ParseOptions) (p : Point) (end 
       Runs FlowStep true line_begins (flow_begins bytes options p) t v → (call : Calls FlowStep true t v t' v') →
       call.name ≡ s.Document document.ContainerExistingBefore → (c : Container) → t' ≡ Retry (further_state c) →
       IsFurtherMet c v'
+  -- All calls of first states are made where what they require is met, by whatever state: those of leaves,
+  pub leaves_called : IsWithoutMdx options → p.index ≤ length bytes → p.vs ≡ 0 → 1 ≤ p.column →
+      (t : State) (v : World) (t' : State) (v' : World)
+      (before : Runs FlowStep true line_begins (flow_begins bytes options p) t v)
+      (call : Calls FlowStep true t v t' v') → (l : LeafName) → call.name ≡ first_state l →
+      IsLeafMet bytes options p (fed FlowStep true line_begins (flow_begins bytes options p) t v before) l v
+  -- those of containers,
+  pub openers_called : (t : State) (v : World) (t' : State) (v' : World) →
+      Runs FlowStep true line_begins (flow_begins bytes options p) t v → (call : Calls FlowStep true t v t' v') →
+      (k : ContainerKind) → call.name ≡ opener_state k → IsOpenerMet k v
+  -- and those of the states before a further prefix
+  pub further_called : (t : State) (v : World) (t' : State) (v' : World) →
+      Runs FlowStep true line_begins (flow_begins bytes options p) t v → (call : Calls FlowStep true t v t' v') →
+      (c : Container) → call.name ≡ further_state c → IsFurtherMet c v
+  -- So are those where a leaf is asked first,
+  pub asked_met : IsWithoutMdx options → p.index ≤ length bytes → p.vs ≡ 0 → 1 ≤ p.column →
+      (t : State) (v : World) (t' : State) (v' : World)
+      (before : Runs FlowStep true line_begins (flow_begins bytes options p) t v)
+      (call : Calls FlowStep true t v t' v') → call.name ≡ s.Document document.FlowInside →
+      IsFrontMet bytes options p (fed FlowStep true line_begins (flow_begins bytes options p) t v before) v
+      (IsMetFirst v)
+  -- and those where leaves are tried in order, but after one that was asked first and has refused the line
+  pub tried_met : IsWithoutMdx options → p.index ≤ length bytes → p.vs ≡ 0 → 1 ≤ p.column →
+      (t : State) (v : World) (t' : State) (v' : World)
+      (before : Runs FlowStep true line_begins (flow_begins bytes options p) t v)
+      (call : Calls FlowStep true t v t' v') → call.name ≡ s.Flow flow.Start →
+      IsFrontMet bytes options p (fed FlowStep true line_begins (flow_begins bytes options p) t v before) v (IsMet v)
+      ⊎ IsFrontRefused bytes options p (fed FlowStep true line_begins (flow_begins bytes options p) t v before) v

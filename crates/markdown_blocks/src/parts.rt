@@ -6,8 +6,9 @@
 // the text, and so are the labels. An item is never last in a part that is followed by another, since the next item
 // might be one of its list.
 //
-// Where a part ends is tried at one empty line, and where it does not end there at another that is twice as far: a text
-// of one block is one part.
+// Where a part ends is tried at an empty line after a line that looks like the last of a paragraph. Where it does not end
+// there it is read again, up to such a line that is four times as far, or to the end of the text. A text that has no such
+// line is one part.
 
 ghost use Rattle.std.specs.Prelude.{◌≡◌, ◌≤◌, ◌<◌, ◌++◌, IfErr, IfNone, IfOk, IfSome, List, Some, None, [], length, true};
 ghost use Rattle.std.specs.Prelude.{false};
@@ -36,6 +37,7 @@ ghost use Rattle.markdown_blocks.specs.PartRead.{WaitsInText, is_part_end, label
 
 use crate::parser::{footnotes_of, read_content, read_front, resolve_blocks, until_changed};
 use md_at_once::table::FlowTable;
+use md_engine::class::above_cr_len;
 use md_engine::configuration::ParseOptions;
 use md_engine::event::{Content, Event, Point};
 use md_engine::message::Message;
@@ -48,11 +50,12 @@ use md_engine::tokenizer::{HeldLeaf, Tokenizer};
 use md_events::inline::Chunk;
 use md_events::plain;
 use md_events::subtokenize::{Reader, subtokenize};
+use md_scan::ahead::begins_with;
 use std::alloc::Global;
 use std::mem;
 
 /// How many bytes a part has at least, if the text has as many.
-const LEAST: usize = 1024 * 1024;
+const LEAST: usize = 64 * 1024;
 
 /// Some whole blocks of a text, or its front: its byte order mark and its frontmatter.
 #[derive(Drop)]
@@ -137,8 +140,79 @@ fn is_part_end(text: &[u8], at: usize) -> bool
     is_ending(before) && is_ending(here) && !(before == b'\r' && here == b'\n')
 }
 
-/// The first place, at least so many bytes after `from`, where an empty line begins after another line; or the end of
-/// the text.
+/// Where the ending begins of the line that has the byte at `from`; or the end of the text.
+fn line_end(text: &[u8], from: usize) -> usize
+    requires { from ≤ length text.now }
+    ensures after { from ≤ result }
+    ensures within { result ≤ length text.now }
+{
+    let mut at = from;
+    while at < text.len() && !is_ending(text[at]) {
+        at += 1;
+        at += above_cr_len(&text[at..]);
+    }
+    at
+}
+
+/// Where the line begins that has the byte at `at`, but not before `from`.
+fn line_begin(text: &[u8], from: usize, at: usize) -> usize
+    requires after { from ≤ at }
+    requires within { at < length text.now }
+    ensures first { from ≤ result }
+    ensures last { result ≤ at }
+{
+    let mut begin = at;
+    while begin > from && !is_ending(text[begin - 1]) {
+        begin -= 1;
+    }
+    begin
+}
+
+/// Where the next line begins, or the text ends, after an ending that begins here.
+fn next_line(text: &[u8], end: usize) -> usize
+    requires { end < length text.now }
+    ensures after { end < result }
+    ensures within { result ≤ length text.now }
+{
+    if text[end] == b'\r' && end + 1 < text.len() && text[end + 1] == b'\n' {
+        return end + 2;
+    }
+    end + 1
+}
+
+/// Whether a line looks like the last of a paragraph, or like a definition: it begins as few other blocks do, and does not
+/// end as lines of code do. What it is, flow says.
+fn may_end_text(line: &[u8]) -> bool
+    ensures { result ≡ true → 0 < length line.now }
+{
+    let [first, others @ ..] = line else {
+        return false;
+    };
+    if *first == b'[' {
+        return !begins_with(b'^', others);
+    }
+    let last = line[line.len() - 1];
+    (first.is_ascii_alphabetic() || *first >= 0x80)
+        && (last.is_ascii_alphanumeric()
+            || last >= 0x80
+            || matches!(last, b'.' | b':' | b'!' | b'?'))
+}
+
+/// The first byte from `from` on that is of no line ending, or the end of the text.
+fn after_endings(text: &[u8], from: usize) -> usize
+    requires { from ≤ length text.now }
+    ensures after { from ≤ result }
+    ensures within { result ≤ length text.now }
+{
+    let mut at = from;
+    while at < text.len() && is_ending(text[at]) {
+        at += 1;
+    }
+    at
+}
+
+/// The first place, at least so many bytes after `from`, where an empty line begins after a line that may end a
+/// paragraph; or the end of the text.
 fn part_end(text: &[u8], from: usize, least: usize) -> usize
     requires inside { from < length text.now }
     requires some { 0 < least }
@@ -146,12 +220,21 @@ fn part_end(text: &[u8], from: usize, least: usize) -> usize
     ensures within { result ≤ length text.now }
     ensures end { result < length text.now → is_part_end text.now result ≡ true }
 {
-    let mut at = from.saturating_add(least);
-    while at < text.len() {
-        if is_part_end(text, at) {
-            return at;
+    let last = from.saturating_add(least - 1).min(text.len() - 1);
+    if line_end(text, last) == text.len() {
+        return text.len();
+    }
+    let mut begin = line_begin(text, from, last);
+    while begin < text.len() {
+        let end = line_end(text, begin);
+        if end == text.len() {
+            return end;
         }
-        at += 1;
+        let to = next_line(text, end);
+        if to < text.len() && is_part_end(text, to) && may_end_text(&text[begin..end]) {
+            return to;
+        }
+        begin = after_endings(text, to);
     }
     text.len()
 }
@@ -350,7 +433,7 @@ fn read_at_least(
         if let Some((part, next)) = read_cut(alloc, text, options, start, to, lent)? {
             return Ok((part, Some(next)));
         }
-        to = part_end(text, to, to - start.index);
+        to = part_end(text, to, (to - start.index).saturating_mul(3));
     }
     let part = read_last(alloc, text, options, start, lent)?;
     Ok((part, None))
@@ -370,7 +453,7 @@ fn point_in(text: &[u8], point: Point) -> Option<Point>
 impl<'a> Parts<'a> {
     ghost use Rattle.markdown_blocks.specs.PartsLeft.{left_in};
 
-    /// A text that is read in parts of 1 MiB, or larger where a block is.
+    /// A text that is read in parts of 64 KiB, or larger where a block is.
     ///
     /// The text has at most `MAX_LEN` bytes, and the constructs of MDX are off. A byte order mark before the text is
     /// taken as such. Nothing is read yet, and no memory is taken.
@@ -387,7 +470,7 @@ impl<'a> Parts<'a> {
         Parts::with_least(alloc, value, options, LEAST)
     }
 
-    /// The same in parts of so many bytes at least: each ends where it may end first after as many.
+    /// The same in parts of so many bytes at least: each ends at the end of a paragraph after as many, where one is found.
     ///
     /// What is asked of the text and of the options is as for `new`.
     pub fn with_least(

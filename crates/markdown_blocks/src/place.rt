@@ -3,11 +3,11 @@
 ghost use Rattle.std.specs.Prelude.{◌≡◌, ◌∷◌, [], IfOk, IfSome, true};
 ghost use Rattle.md_events.specs.Events.Tiles.{part_at, part_kind};
 ghost use Rattle.md_events.specs.Parts.{ArePlaced};
-ghost use Rattle.md_events.specs.TextPart.{IsTextPart, IsTextPartAt, document_of};
+ghost use Rattle.md_events.specs.TextPart.{IsTextPart, document_of};
 ghost use Rattle.md_exact.specs.Blocks.{exact};
 ghost use Rattle.md_meaning.specs.Wrapped.{IsSmall};
 ghost use Rattle.markdown_blocks.specs.Parsed.{IsWithoutMdx};
-ghost use Rattle.markdown_blocks.specs.PartPlaces.{IsPartAt, chunk_at, chunks_in};
+ghost use Rattle.markdown_blocks.specs.PartPlaces.{IsPartAt, IsPlaceOf, chunk_at, chunks_in};
 
 use crate::parser::{read_flow, read_front};
 use crate::part_places::{begins_chunk, ends_part, last_after, place_by};
@@ -123,7 +123,7 @@ fn read_blocks(alloc: Global, bytes: &[u8], options: &ParseOptions) -> Result<Ve
 }
 
 /// Where a text part of a document is: in a cell of a table, in the paragraph that is the first block of an item, or
-/// elsewhere.
+/// elsewhere. In the exact list of the events of a document a part has one place, and this is it.
 ///
 /// For the `read` of a layer whose answer depends on that, since it is given the kind and the chunks of a part alone:
 /// `read_part`, which a parse calls, is given the place too. The blocks of the whole text are read again and searched for
@@ -140,7 +140,7 @@ pub fn place_of(
 ) -> Result<PartPlace, Message>
     requires { IsTextPart (document_of state.now) (record { kind = kind; chunks = chunks.now }) }
     ensures { IfOk result
-        (λ place. IsTextPartAt (document_of state.now) (record { kind = kind; chunks = chunks.now }) place) }
+        (λ place. IsPlaceOf (document_of state.now) (record { kind = kind; chunks = chunks.now }) place) }
 {
     if !is_without_mdx(state.options) {
         return Err(Message);

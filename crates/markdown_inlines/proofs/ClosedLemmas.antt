@@ -353,30 +353,6 @@ leading-closed start bracket old new k options after is_link target e matched en
         (omega (arith, at, mark)) (omega (arith, text, mark, len)) here close-is l w shown t.shown
         all-is s r b p q
 
--- the places of a bracket are there
-pub places-there : (start : ℕ) (bracket : Bracket) (old : Reading) (single : Bool) (lead : Forest)
-    (close label : ℕ) (matched ended all : List Span) → Closing start bracket old →
-    ((at : ℕ) (others own : List Span) (items : List Item) → old.spans.items ≡ others ++ own →
-    Filled at (length others) items own (drop bracket.runs old.runs.items) →
-    Shows at others (emphasis single items) matched) →
-    ended ≡ matched ++ end_spans close → Shows label ended lead all → bracket.place + bracket_room ≤ length all
-places-there start bracket old single lead close label matched ended all k m h t =
-    let inner : Shows (k.frame.at + k.frame.len) (k.opened.0 ++ holes bracket_room) (emphasis single k.items) matched =
-    matched-in start bracket old k single matched m in
-    let first : length matched ≡ length ((k.opened.0 ++ holes bracket_room) ++ inner.own) = ap length inner.same in
-    let second : length ended ≡ length (matched ++ end_spans close) = ap length h in
-    let third : length all ≡ length (ended ++ t.own) = ap length t.same in
-    omega (
-      arith,
-      first,
-      second,
-      third,
-      front-long start bracket old k,
-      length-append (k.opened.0 ++ holes bracket_room) inner.own,
-      length-append matched (end_spans close),
-      length-append ended t.own,
-    )
-
 -- A footnote call.
 
 -- what is found in it is dropped
@@ -401,15 +377,6 @@ call-closed start bracket old new k len e kept cut all here kept-is c a at mark 
     ∙ ap (λ (x : List Span). x ++ end_spans e.close) (sym (append-nil (k.opened.0 ++ holes bracket_room)))
     ∙ ap (λ (x : List Span). ((k.opened.0 ++ holes bracket_room) ++ []) ++ x) (sym (append-nil (end_spans e.close)))) s
     r b p (q ∙ ap (λ (x : Bool). bracket.links || x) (sym (or-false old.links)))
-
-pub call-there : (start : ℕ) (bracket : Bracket) (old : Reading) (kept close : ℕ) (cut all : List Span) →
-    Closing start bracket old → kept ≡ bracket.place + bracket_room → cut ≡ take kept old.spans.items →
-    all ≡ cut ++ end_spans close → bracket.place + bracket_room ≤ length all
-call-there start bracket old kept close cut all k h c a =
-    let first : length all ≡ length (cut ++ end_spans close) = ap length a in
-    let second : length cut ≡ length (k.opened.0 ++ holes bracket_room) =
-    ap length (c ∙ cut-is start bracket old k kept h) in
-    omega (arith, first, second, front-long start bracket old k, length-append cut (end_spans close))
 
 -- How many bytes the first bracket of a pair has.
 

@@ -5,7 +5,6 @@ use Rattle.std.specs.Prelude.{◌==◌, not, codes, nat_eq, nat_le, option_map}
 use Rattle.std.specs.Char.{is_ascii_alphabetic}
 use Rattle.std.specs.List.{starts_with}
 use Rattle.std.proofs.Math.Seq.{drop-cons}
-use Rattle.std.proofs.lemmas.List.{drop-drop}
 use Rattle.std.proofs.lemmas.Bool.Decides.{nat_tests}
 use Rattle.md_meaning.specs.Rest.{run_len}
 use Rattle.md_inlines.specs.Code.{before_run, raw_at}
@@ -24,18 +23,6 @@ no-mark b mark e = grind (arith, nat_tests)
 map-none : (found : Option ℕ) → option_map suc found ≡ None → found ≡ None
 map-none None h = refl
 map-none (Some n) h = cc
-
--- no run begins within one where none begins at all
-begun-absent : (mark size : ℕ) (text : List ℕ) → before_run mark size false text ≡ None →
-    before_run mark size true text ≡ None
-begun-absent mark size [] h = refl
-begun-absent mark size (b ∷ text) h = go (b == mark) (run_len mark (b ∷ text) == size) h
-  where
-    go : (x y : Bool) → cond (x && not false && y) (Some 0) (option_map suc (before_run mark size x text)) ≡ None →
-        cond (x && not true && y) (Some 0) (option_map suc (before_run mark size x text)) ≡ None
-    go false y h = h
-    go true true h = cc
-    go true false h = h
 
 -- where a text begins with no mark, or with a run of another size
 pub other-absent : (mark size : ℕ) (text : List ℕ) → before_run mark size true text ≡ None →
@@ -166,14 +153,6 @@ word-before word text at some fits other h q from = go (nat_le at q) refl
     go false f =
         let same : q ≡ at - 1 = grind (arith, nat_tests) in
         ap (λ n. after_word word (drop n text)) same ∙ ap (after_word word) is ∙ here
-
--- what is absent from a place of a text on is absent after that place
-pub later : (search : List ℕ → Option (List ℕ)) (whole rest : List ℕ) (last at : ℕ) →
-    ((q : ℕ) → last ≤ q → search (drop q whole) ≡ None) → rest ≡ drop (at + 1) whole → nat_le last at ≡ true →
-    (k : ℕ) → search (drop k rest) ≡ None
-later search whole rest last at h is passed k =
-    ap (λ (l : List ℕ). search (drop k l)) is ∙ ap search (drop-drop k (at + 1) whole)
-    ∙ h (at + 1 + k) (let le : last ≤ at = grind (arith, nat_tests) in omega (arith, le))
 
 -- The ends of raw HTML.
 

@@ -8,16 +8,16 @@ use Rattle.md_events.specs.declared.inline.PartKind.TheVariants as kind
 use Rattle.md_events.specs.declared.inline.PartPlace.{PartPlace}
 use Rattle.md_events.specs.declared.labels.Labels.{Labels}
 use Rattle.md_events.specs.Events.Inline.{Part}
-use Rattle.md_events.specs.TextPart.{AreLabelsOf, Document}
+use Rattle.md_events.specs.TextPart.{AreLabelsOf, Document, IsTextPartAt}
 use Rattle.md_inline_events.specs.Tokens.{live, tokens}
 use Rattle.md_inline_events.specs.declared.token.Token.{Token}
 use Rattle.md_inline_events.specs.Woven.{read_text, woven_events}
 use Rattle.md_inlines.specs.declared.InlineOptions.{InlineOptions}
 use Rattle.md_inlines.specs.Content.{content}
 use Rattle.md_inlines.specs.Targets.{string}
-use Rattle.markdown_inlines.specs.Layer.{AreEvents, MeansAsAt, inline_events, labels_in, may_have_check}
+use Rattle.markdown_inlines.specs.Layer.{AreEvents, AreTheEvents, MeansAsAt, inline_events, labels_in}
+use Rattle.markdown_inlines.specs.Layer.{may_have_check, part_forest}
 use Rattle.markdown_inlines.specs.Given.{labels_of}
-use Rattle.markdown_inlines.specs.Layer.{part_forest}
 use Rattle.markdown_inlines.proofs.StringTokens.{live-tokens}
 
 -- The tokens of a part, by its kind.
@@ -69,8 +69,18 @@ part-events options document held place old new none is =
     is ∙ ap (λ (l : List Event). l ++ inline_events options document place held) none
 
 -- and they are those of the part
+pub events-at : (options : InlineOptions) (document : Document) (held : Part) (place : PartPlace)
+    (events : List Event) → IsTextPartAt document held place → events ≡ inline_events options document place held →
+    AreEvents options document held events
+events-at options document held place events at is = record { place = place; at = at; same = is }
+
 pub events-of : (options : InlineOptions) (document : Document) (held : Part) (place : PartPlace)
     (events : List Event) → MeansAsAt options document held place →
     events ≡ inline_events options document place held → AreEvents options document held events
 events-of options document held place events means is =
     record { place = means.own; at = means.at; same = is ∙ means.same }
+
+pub listed-of : (options : InlineOptions) (document : Document) (held : Part) (place : PartPlace)
+    (events : List Event) → MeansAsAt options document held place →
+    events ≡ inline_events options document place held → AreTheEvents options document held events
+listed-of options document held place events means is = λ other at. is ∙ means.listed other at

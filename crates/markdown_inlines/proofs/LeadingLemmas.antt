@@ -23,7 +23,7 @@ use Rattle.markdown_inlines.specs.Found.{atom_forest, atom_size, atom_spans}
 use Rattle.markdown_inlines.specs.Leading.{destination_len, ending, ending_len, inner, label_after, quoted}
 use Rattle.markdown_inlines.specs.Leading.{within_quotes}
 use Rattle.markdown_inlines.specs.Spans.{live, span_of, spans_forest}
-use Rattle.markdown_inlines.proofs.ShapeLemmas.{atom-live, atom-size, fits, live-last, live-over, live-part, live-text}
+use Rattle.markdown_inlines.proofs.ShapeLemmas.{atom-live, atom-size, fits, live-last, live-over, live-part}
 use Rattle.markdown_inlines.proofs.ShapeLemmas.{merged-spans, no-spans}
 use Rattle.markdown_inlines.proofs.SpanLemmas.{both, live-append, spans-at, spans-beside}
 
@@ -123,20 +123,6 @@ read-found options at old text here end spans next own b rest found to h same sh
     (string_parts options (b ∷ rest)) spans final (sym (parts-found options b rest found h))
     (shows-beside here end found (string_parts options (drop (size found) (b ∷ rest))) spans next final e
     (record { own = own; same = same; shown = shown }) s))
-
-pub read-plain : (options : InlineOptions) (at : ℕ) (old : List Span) (text : List ℕ) (here end : ℕ)
-    (spans : List Span) (b : ℕ) (rest : List ℕ) → ToRead options at old text here spans (b ∷ rest) →
-    string_atom options (b ∷ rest) ≡ None → end ≡ here + 1 → ToRead options at old text end spans rest
-read-plain options at old text here end spans b rest to h e final s =
-    to final
-    (forest-shows here (byte n.Data (string_parts options rest)) (string_parts options (b ∷ rest)) spans final
-    (sym (parts-plain options b rest h))
-    (record {
-      own = s.own;
-      same = s.same;
-      shown = (live-text here end 1 (string_parts options rest) s.own e
-          (fits end (string_parts options rest) s.own s.shown)).is;
-    }))
 
 pub read-all : (options : InlineOptions) (at : ℕ) (old : List Span) (text : List ℕ) (here : ℕ) (spans : List Span) →
     ToRead options at old text here spans [] → Shows at old (string options text) spans
@@ -294,40 +280,6 @@ destination-size options false text =
       string-size options text,
     )
 
--- one in angle brackets
-pub literal-shows : (options : InlineOptions) (is_literal : Bool) (text inside : List ℕ) (at : ℕ)
-    (old new : List Span) → is_literal ≡ true → inside ≡ inner text →
-    Shows at old
-    (quoted options
-    (record {
-      whole = n.ResourceDestinationLiteral;
-      mark = n.ResourceDestinationLiteralMarker;
-      string = n.ResourceDestinationString;
-    }) inside) new → Shows at old (destination options is_literal text) new
-literal-shows options is_literal text inside at old new is same s =
-    forest-shows at
-    (quoted options
-    (record {
-      whole = n.ResourceDestinationLiteral;
-      mark = n.ResourceDestinationLiteralMarker;
-      string = n.ResourceDestinationString;
-    }) inside) (destination options is_literal text) old new
-    (ap
-    (quoted options
-    (record {
-      whole = n.ResourceDestinationLiteral;
-      mark = n.ResourceDestinationLiteralMarker;
-      string = n.ResourceDestinationString;
-    })) same
-    ∙ ap (λ (t : Bool). destination options t text) (sym is)) s
-
-pub plain-shows : (options : InlineOptions) (is_literal : Bool) (text : List ℕ) (at : ℕ) (old new : List Span) →
-    is_literal ≡ false → Shows at old (destination options false text) new →
-    Shows at old (destination options is_literal text) new
-plain-shows options is_literal text at old new is s =
-    forest-shows at (destination options false text) (destination options is_literal text) old new
-    (ap (λ (t : Bool). destination options t text) (sym is)) s
-
 -- The end of a resource.
 
 abbrev title_names : Quotes
@@ -354,24 +306,7 @@ ending-size options r text = go (r.title == 0)
           piece-size n.ResourceMarker 0 nothing,
         )
 
--- without a title
-pub untitled-shows : (options : InlineOptions) (r : Resource) (text : List ℕ) (at end : ℕ) (old new : List Span) →
-    r.title ≡ 0 → end ≡ at + 1 → new ≡ old ++ span_of n.ResourceMarker at end ∷ [] →
-    Shows at old (ending options r text) new
-untitled-shows options r text at end old new none e h =
-    forest-shows at (byte n.ResourceMarker nothing) (ending options r text) old new
-    (sym (ap (λ (k : ℕ). cond (k == 0) (byte n.ResourceMarker nothing) titled) none))
-    (record {
-      own = span_of n.ResourceMarker at end ∷ [];
-      same = h;
-      shown = (live-over at end n.ResourceMarker 1 nothing [] refl e (no-spans end)).is;
-    })
-  where
-    titled : Forest
-    titled = part n.ResourceTitle (within_quotes options title_names (inner (take r.title text)))
-        (over n.SpaceOrTab r.after (byte n.ResourceMarker nothing))
-
--- with one
+-- with a title
 pub titled-shows : (options : InlineOptions) (r : Resource) (text : List ℕ) (at close mark end : ℕ)
     (old mid new : List Span) (inside : List ℕ) → (r.title ≡ 0 → ⊥) → inside ≡ inner (take r.title text) →
     close ≡ at + (length inside + 2) → mark ≡ close + r.after → end ≡ mark + 1 →
@@ -407,13 +342,6 @@ titled-shows options r text at close mark end old mid new inside more same c m e
 
 abbrev reference_names : Quotes
 reference_names = record { whole = n.Reference; mark = n.ReferenceMarker; string = n.ReferenceString }
-
-pub reference-shows : (options : InlineOptions) (label inside : List ℕ) (at : ℕ) (old new : List Span) →
-    inside ≡ label → Shows at old (quoted options reference_names inside) new → Shows at old (reference options
-    label) new
-reference-shows options label inside at old new same s =
-    forest-shows at (quoted options reference_names inside) (reference options label) old new
-    (ap (quoted options reference_names) same) s
 
 pub reference-size : (options : InlineOptions) (label inside : List ℕ) (at end : ℕ) → inside ≡ label →
     end ≡ at + (length inside + 2) → end ≡ at + size (reference options label)

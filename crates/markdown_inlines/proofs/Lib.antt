@@ -31,3 +31,4 @@ pub mod PlainLemmas
 pub mod EndLemmas
 pub mod PassLemmas
 pub mod ContentTokens
+pub mod AlikeLemmas

@@ -1,5 +1,5 @@
 -- Where a part of a document is: each is at some place, and mostly the place does not matter.
-use Rattle.std.proofs.Common.{◌≡◌, ℕ, Bool, true, false, cond, ◌&&◌, List, [], ◌∷◌, ◌++◌, take, drop, refl, ap, ◌∙◌}
+use Rattle.std.proofs.Common.{◌≡◌, ℕ, Bool, true, false, cond, ◌&&◌, List, [], ◌∷◌, ◌++◌, take, drop, refl, ap, sym, ◌∙◌}
 use Rattle.std.specs.Prelude.{Option, Some, None, slice_index}
 use Rattle.md_engine.specs.declared.event.Event.{Event}
 use Rattle.md_engine.specs.declared.event.Kind.{Kind}
@@ -17,7 +17,8 @@ use Rattle.md_inline_events.specs.Woven.{read_text, woven_events}
 use Rattle.md_inlines.specs.declared.InlineOptions.{InlineOptions}
 use Rattle.md_inlines.specs.Content.{check, content, forest_after, has_form}
 use Rattle.md_inlines.specs.Task.{is_task}
-use Rattle.markdown_inlines.specs.Layer.{MeansAsAt, labels_in, may_have_check, part_forest, place_matters}
+use Rattle.markdown_blocks.specs.PartPlaces.{IsPlaceOf}
+use Rattle.markdown_inlines.specs.Layer.{MeansAsAt, inline_events, labels_in, may_have_check, part_forest, place_matters}
 
 -- Each part begins with an event.
 
@@ -124,6 +125,7 @@ anywhere options document held place is none =
       own = found.0;
       at = found.1;
       same = ap (λ (f : Forest). woven_events document.bytes held f) (same held.kind found.0 none);
+      listed = λ other at. ap (λ (f : Forest). woven_events document.bytes held f) (same held.kind other none);
     }
   where
     same : (of : PartKind) (own : PartPlace) → place_matters options of (read_text document.bytes held) ≡ false →
@@ -136,5 +138,10 @@ anywhere options document held place is none =
 
 -- where it is
 pub means-at : (options : InlineOptions) (document : Document) (held : Part) (place : PartPlace) →
-    IsTextPartAt document held place → MeansAsAt options document held place
-means-at options document held place at = record { own = place; at = at; same = refl }
+    IsPlaceOf document held place → MeansAsAt options document held place
+means-at options document held place is = record {
+  own = place;
+  at = is.at;
+  same = refl;
+  listed = λ other at. ap (λ (p : PartPlace). inline_events options document p held) (sym (is.only other at));
+}

@@ -32,10 +32,10 @@ use Rattle.md_inlines.specs.Targets.{title_part}
 use Rattle.proof_inlines.specs.Sized.{IsFront}
 use Rattle.proof_inlines.proofs.Promise.{atom-front}
 use Rattle.proof_inlines.proofs.SizeLemmas.{part-size}
-use Rattle.markdown_inlines.specs.Readable.{begins_apart, is_readable}
+use Rattle.markdown_inlines.specs.Readable.{begins_apart}
 use Rattle.markdown_inlines.proofs.ReadableLemmas.{Readable, Solid, beside-solid, over-apart, over-readable}
 use Rattle.markdown_inlines.proofs.ReadableLemmas.{is-some, over-solid, part-readable, piece-some}
-use Rattle.markdown_inlines.proofs.ReadableLemmas.{readable-is, readable-merged, solid-readable, some-readable}
+use Rattle.markdown_inlines.proofs.ReadableLemmas.{readable-merged, solid-readable, some-readable}
 use Rattle.markdown_inlines.proofs.ReadableEmphasis.{Holds, cond-holds, map-holds}
 
 -- if it is over a byte, it is solid
@@ -237,9 +237,6 @@ readable-string : (options : InlineOptions) (text : List ℕ) → Readable (stri
 readable-string options text =
     readable-merged (string_at_most options (length text) text)
     (solid-readable (string_at_most options (length text) text) (string-solid options (length text) text))
-
-pub string-readable : (options : InlineOptions) (text : List ℕ) → is_readable (string options text) ≡ true
-string-readable options text = readable-is (string options text) (readable-string options text)
 
 -- Targets.
 

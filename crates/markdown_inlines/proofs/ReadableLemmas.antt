@@ -1,7 +1,7 @@
 -- Readable forests that are put together, and merged.
 use Rattle.std.proofs.Common.{◌≡◌, ℕ, zero, suc, ◌+◌, ◌<◌, Bool, true, false, cond, ◌&&◌, refl, ap, sym, ◌∙◌, arith}
 use Rattle.std.specs.Prelude.{◌||◌, not, nat_lt}
-use Rattle.std.proofs.lemmas.Bool.{and_from, and_parts, not-true, or_left, or_right}
+use Rattle.std.proofs.lemmas.Bool.{and_from, or_left, or_right}
 use Rattle.std.proofs.lemmas.Bool.Decides.{nat_tests}
 use Rattle.md_engine.specs.declared.event.Name.{Name}
 use Rattle.md_events.specs.Events.Pieces.{is_piece_name}
@@ -36,25 +36,6 @@ readable-is (part name inside following) h =
     (and_from (nat_lt 0 (size inside) || begins_apart following) (is_readable inside && is_readable following) h.1
     (and_from (is_readable inside) (is_readable following) (readable-is inside h.2) (readable-is following h.3)))
 
-pub is-readable : (forest : Forest) → is_readable forest ≡ true → Readable forest
-is-readable nothing h = tt
-is-readable (piece name more following) h =
-    let parts : (is_piece_name name ≡ true) × (is_readable following ≡ true) =
-    and_parts (is_piece_name name) (is_readable following) h in
-    (parts.0, is-readable following parts.1)
-is-readable (part name inside following) h =
-    let outer : (not (is_piece_name name) ≡ true) ×
-    (((nat_lt 0 (size inside) || begins_apart following) && (is_readable inside && is_readable following)) ≡ true) =
-    and_parts (not (is_piece_name name))
-    ((nat_lt 0 (size inside) || begins_apart following) && (is_readable inside && is_readable following)) h in
-    let apart : ((nat_lt 0 (size inside) || begins_apart following) ≡ true) ×
-    ((is_readable inside && is_readable following) ≡ true) =
-    and_parts (nat_lt 0 (size inside) || begins_apart following) (is_readable inside && is_readable following)
-    outer.1 in
-    let both : (is_readable inside ≡ true) × (is_readable following ≡ true) =
-    and_parts (is_readable inside) (is_readable following) apart.1 in
-    (not-true (is_piece_name name) outer.0, apart.0, is-readable inside both.0, is-readable following both.1)
-
 pub is-some : (count : ℕ) → 0 < count → nat_lt 0 count ≡ true
 is-some count h = grind (arith, nat_tests)
 
@@ -84,16 +65,6 @@ pub piece-some : (name : Name) (more : ℕ) (following : Forest) → 0 < size (p
 piece-some name more following = omega (arith, piece-size name more following)
 
 -- Side by side.
-
-pub beside-readable : (a b : Forest) → Solid a → Readable b → Readable (beside a b)
-beside-readable nothing b h k = k
-beside-readable (piece name more following) b h k = (h.0, beside-readable following b h.1 k)
-beside-readable (part name inside following) b h k = (
-  h.0,
-  or_left (nat_lt 0 (size inside)) (begins_apart (beside following b)) (is-some (size inside) h.1),
-  h.2,
-  beside-readable following b h.3 k,
-)
 
 pub beside-solid : (a b : Forest) → Solid a → Solid b → Solid (beside a b)
 beside-solid nothing b h k = k
@@ -157,9 +128,6 @@ readable-merged (part name inside following) h = (
   readable-merged inside h.2,
   readable-merged following h.3,
 )
-
-pub merged-readable : (forest : Forest) → is_readable forest ≡ true → is_readable (merged forest) ≡ true
-merged-readable forest h = readable-is (merged forest) (readable-merged forest (is-readable forest h))
 
 -- Nothing is left to join in what is merged.
 

@@ -75,11 +75,6 @@ live-text at end count following ys h f = record {
   is = f.is ∙ spans-at following end (at + count) h ∙ sym (spans-over at n.Data count following);
 }
 
--- what is added has the spans of a forest
-pub adds : (at : ℕ) (forest : Forest) (old new own : List Span) → new ≡ old ++ own →
-    live own ≡ spans_forest at forest → Shows at old forest new
-adds at forest old new own h k = record { own = own; same = h; shown = k }
-
 -- Atoms.
 
 escape-live : (at : ℕ) → Fits at (atom_forest a.Escape) (atom_spans at a.Escape)

@@ -73,15 +73,6 @@ holes-append zero b c h = ap holes (omega (arith, h))
 holes-append (suc a) b zero h = absurd (omega (arith, h))
 holes-append (suc a) b (suc c) h = ap (λ (l : List Span). hole ∷ l) (holes-append a b c (omega (arith, h)))
 
--- as places are kept one after the other
-pub holes-more : (left : ℕ) (spans : List Span) → 0 < left →
-    (spans ++ hole ∷ []) ++ holes (left - 1) ≡ spans ++ holes left
-holes-more zero spans h = absurd (omega (arith, h))
-holes-more (suc left) spans h =
-    let less : suc left - 1 ≡ left = omega arith in
-    append_assoc spans (hole ∷ []) (holes (suc left - 1))
-    ∙ ap (λ (k : ℕ). spans ++ hole ∷ holes k) less
-
 -- those of a run, three for each byte if it may open
 pub run-places : (left : ℕ) (spans : List Span) (x : Bool) → x ≡ true →
     ((spans ++ holes left) ++ holes left) ++ holes left ≡ spans ++ holes (left * width x)

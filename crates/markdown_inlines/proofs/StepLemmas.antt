@@ -20,8 +20,8 @@ use Rattle.markdown_inlines.specs.Closed.{IsAtomAdded, IsOpened, IsRunAdded, IsT
 use Rattle.markdown_inlines.specs.Filled.{placed, room}
 use Rattle.markdown_inlines.specs.Found.{atom_forest, atom_spans}
 use Rattle.markdown_inlines.specs.Opened.{Opened, bracket_of, bracket_room, reached}
-use Rattle.markdown_inlines.specs.Reading.{Frame, State, added, closed_by}
-use Rattle.markdown_inlines.specs.Reading.{front_at, is_open, opened, pair_link, pair_taken}
+use Rattle.markdown_inlines.specs.Reading.{Frame, added, closed_by}
+use Rattle.markdown_inlines.specs.Reading.{front_at, is_open, opened, pair_link}
 use Rattle.markdown_inlines.specs.Reading as reading
 use Rattle.markdown_inlines.specs.Reads.{ClosedAs, Closing, Goes, Lens, Reads, left_of}
 use Rattle.markdown_inlines.specs.Spans.{holes, spans_forest}

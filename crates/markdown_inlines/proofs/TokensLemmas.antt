@@ -557,34 +557,6 @@ tokens-read forest start end spans r m long shows =
     ∙ ap (λ (l : List Token). tokens forest ++ l) (text-none (start + size forest) end (omega (arith, long)))
     ∙ append-nil (tokens forest)
 
--- The tokens of a forest are live: a writer of events may be given them.
-
-live-append : (xs ys : List Token) → listed.live (xs ++ ys) ≡ listed.live xs ++ listed.live ys
-live-append [] ys = refl
-live-append (x ∷ xs) ys = go (listed.is_live x) (live-append xs ys)
-  where
-    go : (is : Bool) → listed.live (xs ++ ys) ≡ listed.live xs ++ listed.live ys →
-        cond is (x ∷ listed.live (xs ++ ys)) (listed.live (xs ++ ys)) ≡
-        cond is (x ∷ listed.live xs) (listed.live xs) ++ listed.live ys
-    go true h = ap (λ (l : List Token). x ∷ l) h
-    go false h = h
-
-live-around : (name : Name) (held : List Token) → listed.live held ≡ held →
-    listed.live (around name held) ≡ around name held
-live-around name [] h = refl
-live-around name (token ∷ held) h =
-    ap (λ (l : List Token). t.Enters name ∷ l)
-    (live-append (token ∷ held) (t.Leaves name ∷ []) ∙ ap (λ (l : List Token). l ++ t.Leaves name ∷ []) h)
-
-pub live-tokens : (forest : Forest) → listed.live (tokens forest) ≡ tokens forest
-live-tokens nothing = refl
-live-tokens (piece name more following) = ap (λ (l : List Token). t.Over name (suc more) ∷ l) (live-tokens following)
-live-tokens (part name inside following) =
-    live-append (around name (tokens inside)) (tokens following)
-    ∙ ap (λ (l : List Token). l ++ listed.live (tokens following))
-    (live-around name (tokens inside) (live-tokens inside))
-    ∙ ap (λ (l : List Token). around name (tokens inside) ++ l) (live-tokens following)
-
 -- As they are read: the parts that are open are listed with the innermost last.
 
 last-first : (old parts : List Span) (inner : Span) → old ≡ parts ++ inner ∷ [] → reverse old ≡ inner ∷ reverse parts

@@ -14,6 +14,7 @@ use Rattle.md_inlines.specs.declared.InlineOptions.{InlineOptions}
 use Rattle.md_inlines.specs.Content.{content}
 use Rattle.md_inlines.specs.Task.{is_task}
 use Rattle.md_inlines.specs.Targets.{string}
+use Rattle.markdown_blocks.specs.PartPlaces.{IsListedAt}
 
 -- the labels of a document
 abbrev pub labels_in : Document → meaning.Labels
@@ -41,6 +42,12 @@ pub record AreEvents (options : InlineOptions) (document : Document) (held : Par
   pub at : IsTextPartAt document held place
   pub same : events ≡ inline_events options document place held
 
+-- The events of a part of a document by its place in the exact list, in which it has one at most: of a part of that
+-- list they are one list, which the document, the part and the options determine.
+abbrev pub AreTheEvents : InlineOptions → Document → Part → List Event → Type 0
+AreTheEvents options document held events =
+    (place : PartPlace) → IsListedAt document held place → events ≡ inline_events options document place held
+
 -- The layer's own steps.
 
 -- whether it matters where a part with this text is: whether the text begins with a check
@@ -48,8 +55,9 @@ abbrev pub place_matters : InlineOptions → PartKind → List ℕ → Bool
 place_matters options kind.Text text = options.constructs.gfm_task_list_item && is_task text
 place_matters options kind.String text = false
 
--- A part means the same here as where it is.
+-- A part means the same here as where it is, and as where it is in the exact list.
 pub record MeansAsAt (options : InlineOptions) (document : Document) (held : Part) (place : PartPlace) : Type 0 where
   pub own : PartPlace
   pub at : IsTextPartAt document held own
   pub same : inline_events options document place held ≡ inline_events options document own held
+  pub listed : AreTheEvents options document held (inline_events options document place held)

@@ -16,3 +16,4 @@ pub mod Reads
 pub mod Addressed
 pub mod Added
 pub mod Layer
+pub mod Alike

@@ -171,7 +171,15 @@ impl Inline for Inlines {
         kind: PartKind,
         chunks: &[Chunk],
         state: &ParseState,
-    ) -> Result<Vec<Event>, Message> {
+    ) -> Result<Vec<Event>, Message>
+        requires { IsTextPart (document_of state.now) (record { kind = kind; chunks = chunks.now }) }
+        ensures reads { IfOk result
+            (λ events. spec.AreEvents self.now.options (document_of state.now)
+            (record { kind = kind; chunks = chunks.now }) events.items) }
+        ensures one { IfOk result
+            (λ events. spec.AreTheEvents self.now.options (document_of state.now)
+            (record { kind = kind; chunks = chunks.now }) events.items) }
+    {
         let mut events = Vec::new(alloc);
         self.read_into(alloc, kind, chunks, state, &mut events)?;
         Ok(events)
@@ -185,7 +193,13 @@ impl Inline for Inlines {
         chunks: &[Chunk],
         state: &ParseState,
         events: &mut Vec<Event>,
-    ) -> Result<(), Message> {
+    ) -> Result<(), Message>
+        requires { IsTextPart (document_of state.now) (record { kind = kind; chunks = chunks.now }) }
+        ensures reads { OnOk result (spec.AreEvents self.now.options (document_of state.now)
+            (record { kind = kind; chunks = chunks.now }) events.new.items) }
+        ensures one { OnOk result (spec.AreTheEvents self.now.options (document_of state.now)
+            (record { kind = kind; chunks = chunks.now }) events.new.items) }
+    {
         let place = place_to_read_at(alloc, &self.options, kind, chunks, state)?;
         let labels = Labels::new(alloc, &state.definitions, &state.gfm_footnote_definitions)?;
         let part = TextPart {
@@ -203,7 +217,15 @@ impl Inline for Inlines {
         state: &ParseState,
         labels: &Labels,
         events: &mut Vec<Event>,
-    ) -> Result<(), Message> {
+    ) -> Result<(), Message>
+        requires part { IsTextPartAt (document_of state.now)
+            (record { kind = part.kind; chunks = part.chunks.now }) part.place }
+        requires labels { AreLabelsOf (document_of state.now) labels.now }
+        ensures reads { OnOk result (spec.AreEvents self.now.options (document_of state.now)
+            (record { kind = part.entry.kind; chunks = part.entry.chunks.now }) events.new.items) }
+        ensures same { OnOk result (events.new.items ≡ spec.inline_events self.now.options (document_of state.now)
+            part.entry.place (record { kind = part.entry.kind; chunks = part.entry.chunks.now })) }
+    {
         read_as_at(alloc, &self.options, part, state, labels, events)
     }
 

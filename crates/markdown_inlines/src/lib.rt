@@ -12,6 +12,7 @@ pub mod content;
 mod emails;
 mod ends;
 pub mod labels;
+pub mod laws;
 pub mod layer;
 mod plain;
 mod slices;

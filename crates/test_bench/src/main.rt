@@ -1,18 +1,20 @@
 // The bench. The first argument says what is tried: `blocks` the parser, `references` its rows of events with that
 // layer, `plain` the plain program, `levels` both on deep nesting, and the inline layer, `agree` both against each
 // other on short texts, `nasty` the same where constructs meet, `inlines` the reader of inline content against its
-// plain definition; without one it is all of these, `agree` with fewer letters. After `blocks` and `plain` is a task of
-// `test_rows::runner::task`, after `levels` how many containers are in one another, after `agree` the most letters of a
-// text, after `nasty` a task of `test_rows::runner::nasty`, after `inlines` one of `inlines`. It prints what disagreed,
-// and then how much was tried.
+// plain definition, `nesting` the inline content of texts in containers; without one it is all of these, `agree` with
+// fewer letters. After `blocks` and `plain` is a task of `test_rows::runner::task`, after `levels` how many containers
+// are in one another, after `agree` the most letters of a text, after `nasty` a task of `test_rows::runner::nasty`,
+// after `inlines` one of `inlines`. It prints what disagreed, and then how much was tried.
 #![tactic(auto)]
 
 mod inlined;
 mod inlines;
+mod nesting;
 mod referenced;
 
 use inlined::try_inline_levels;
 use inlines::Inlines;
+use nesting::try_nesting;
 use printing::blocks::Blocks;
 use reference_tree::plain::Plain;
 use referenced::Referenced;
@@ -42,11 +44,12 @@ enum Bench {
     Agree(usize),
     Nasty(Nasty),
     Inlines(Inlines),
+    Nesting,
 }
 
 impl Bench {
     /// What is tried without an argument.
-    const ALL: [Bench; 11] = [
+    const ALL: [Bench; 12] = [
         Bench::Blocks(Task::Rows),
         Bench::References,
         Bench::Plain(Task::Rows),
@@ -58,6 +61,7 @@ impl Bench {
         Bench::Agree(LETTERS),
         Bench::Inlines(Inlines::LETTERS),
         Bench::Inlines(Inlines::RANDOM),
+        Bench::Nesting,
     ];
 
     /// What these arguments name, or `None` where they name nothing.
@@ -73,6 +77,7 @@ impl Bench {
             ("agree", [most]) => Some(Bench::Agree(most.as_str().parse().ok()?)),
             ("nasty", others) => Some(Bench::Nasty(Nasty::asked_for(others)?)),
             ("inlines", others) => Some(Bench::Inlines(Inlines::asked_for(others)?)),
+            ("nesting", []) => Some(Bench::Nesting),
             _ => None,
         }
     }
@@ -94,6 +99,7 @@ impl Bench {
             Bench::Agree(most) => try_agree::<Blocks, Plain>(alloc, most, report),
             Bench::Nasty(nasty) => nasty.perform::<Blocks, Plain>(alloc, report),
             Bench::Inlines(inlines) => inlines.perform(alloc, report),
+            Bench::Nesting => try_nesting(alloc, report),
         }
     }
 }
@@ -106,9 +112,9 @@ fn main(rt: HostRuntime) -> io::Result<()> {
     let asked = Bench::asked_for(args.as_slice());
     if asked.is_none() && !args.is_empty() {
         return println!(rt;
-            "references; blocks or plain, and rows, short LENGTH, or random SEED COUNT; levels COUNT; agree LENGTH; \
-             nasty, and letters MOST, fragments MOST, or random, alerts or flags with SEED COUNT; or inlines, and \
-             letters MOST, or random SEED COUNT"
+            "references; nesting; blocks or plain, and rows, short LENGTH, or random SEED COUNT; levels COUNT; \
+             agree LENGTH; nasty, and letters MOST, fragments MOST, or random, alerts or flags with SEED COUNT; or \
+             inlines, and letters MOST, or random SEED COUNT"
         );
     }
     for bench in Bench::ALL {

@@ -7,6 +7,7 @@ use markdown_blocks::event::Event;
 use markdown_blocks::message::Message;
 use markdown_blocks::outline::outline;
 use markdown_blocks::parser::{ParseState, parse, parse_with};
+use markdown_inlines::Inlines;
 use md_engine::configuration::ParseOptions;
 use md_program::body::Body;
 use md_program::printing::Printing;
@@ -14,8 +15,12 @@ use printing::blocks::Blocks;
 use std::alloc::Global;
 use std::mem::size_of;
 
-/// How a text begins whose parts the layer `References` reads. Those of any other text are read as lines.
+/// How a text begins whose parts the layer `References` reads.
 const REFERENCES: &str = "[references]: /\n";
+
+/// How a text begins whose blocks and parts are read with the constructs of GitHub, the parts by the layer `Inlines`:
+/// two blank lines, the second with a tab. The parts of any other text are read as lines.
+const INLINES: &str = "\n\t\n";
 
 /// The events of a text, and what else is known of it.
 fn read<'a>(
@@ -28,8 +33,19 @@ fn read<'a>(
 {
     if text.starts_with(REFERENCES) {
         parse_with(alloc, &References, text, options)
+    } else if text.starts_with(INLINES) {
+        parse_with(alloc, &Inlines::GFM, text, options)
     } else {
         parse(alloc, text, options)
+    }
+}
+
+/// The options that a text is read with, where it has none of its own.
+fn options_of(text: &str, options: ParseOptions) -> ParseOptions {
+    if text.starts_with(INLINES) {
+        ParseOptions::GFM
+    } else {
+        options
     }
 }
 
@@ -41,7 +57,7 @@ impl Printing for Cost {
     ghost prints = { λ text options output. Unit {0} };
 
     fn output(alloc: Global, text: &str, options: ParseOptions) -> Result<String, Message> {
-        let options = Blocks::built(options);
+        let options = Blocks::built(options_of(text, options));
         let (events, state) = read(alloc, text, &options)?;
         let lines = outline(alloc, &events, &state)?;
         let mut numbers = String::new(alloc);

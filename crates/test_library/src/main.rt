@@ -3,6 +3,7 @@
 //
 //     parse, parse_with, inlines, parts, outline, outline_part
 //                                   it prints the outline of the text; `inlines` is `parse_with` with that layer
+//     html                          it prints the HTML of the text
 //     quote, item, footnote         it prints the text in that container
 //     run                           it prints what `printing::run_blocks::run` prints of its standard input
 //     states                        the states that take no memory, of those that can be called on their own;
@@ -13,8 +14,8 @@
 // Tests of the library and of the programs that no row can have: runs over inputs and outputs that fail or that signals
 // interrupt, arguments of a system, texts and outlines by parts, the plain program on many containers, what the layer of
 // references marks, what a layer learns of a text part, which delimiter runs are matched, what is found in the text of
-// a part, and what the inline layer reads of documents. A crate with tests is proved twice, so they are here and not
-// beside what they test.
+// a part, what the inline layer reads of documents, and the HTML of texts. A crate with tests is proved twice, so they
+// are here and not beside what they test.
 #![tactic(auto)]
 
 ghost use Rattle.markdown_blocks.specs.Parsed.{IsSmall, IsWithoutMdx};
@@ -29,6 +30,10 @@ mod deep;
 mod layer;
 #[cfg(test)]
 mod marks;
+#[cfg(test)]
+mod page_rows;
+#[cfg(test)]
+mod pages;
 #[cfg(test)]
 mod parts;
 #[cfg(test)]
@@ -53,6 +58,7 @@ use markdown_blocks::outline::{outline, outline_part};
 use markdown_blocks::parser::{ParseState, Parts, parse, parse_with};
 use markdown_blocks::seam::Inline;
 use markdown_blocks::wrap::{footnote, item, quote};
+use markdown_html::{HtmlOptions, html};
 use markdown_inlines::Inlines;
 use md_program::body::{Body, MOST, Outlined};
 use md_program::print::print;
@@ -216,6 +222,18 @@ fn outlined_part(alloc: Global, text: &str, options: &ParseOptions) -> Result<St
     print(alloc, &outlined)
 }
 
+/// The HTML of the text; only what makes it of its events is between the marks.
+fn written(alloc: Global, text: &str, options: &ParseOptions) -> Result<String, Message>
+    requires size { IsSmall text.now }
+    requires built { IsWithoutMdx options.now }
+{
+    let (events, state) = parse_with(alloc, &Inlines::GFM, text, options)?;
+    let _before = mark(alloc, BEFORE)?;
+    let page = html(alloc, &events, &state, &HtmlOptions::SAFE);
+    let _after = mark(alloc, AFTER)?;
+    page
+}
+
 /// The text in a quote.
 fn in_quote(alloc: Global, text: &str, options: &ParseOptions) -> Result<String, Message>
     requires { IsSmall text.now }
@@ -250,7 +268,7 @@ fn in_footnote(alloc: Global, text: &str, options: &ParseOptions) -> Result<Stri
 fn answer(alloc: Global, word: &str) -> Result<String, Message> {
     let text = match word {
         "parts" => PARTED,
-        "inlines" => MARKED,
+        "inlines" | "html" => MARKED,
         _ => TEXT,
     };
     if text.len() > MOST {
@@ -262,6 +280,7 @@ fn answer(alloc: Global, word: &str) -> Result<String, Message> {
         "parse_with" => parsed_with(alloc, &References, text, &options),
         "inlines" => parsed_with(alloc, &Inlines::GFM, text, &options),
         "parts" => parsed_by_parts(alloc, text, &options),
+        "html" => written(alloc, text, &options),
         "outline" => outlined(alloc, text, &options),
         "outline_part" => outlined_part(alloc, text, &options),
         "quote" => in_quote(alloc, text, &options),

@@ -99,9 +99,9 @@ fn a_text_ends_a_part_before_an_empty_line(rt: HostRuntime) {
 #[test]
 fn no_part_ends_in_a_block_or_after_an_item(rt: HostRuntime) {
     let alloc = rt.alloc();
-    check(&rt, alloc, "- a\n\n- b\n\nc\n\nd", 1, 1);
+    check(&rt, alloc, "- a\n\n- b\n\nc\n\nd", 1, 2);
     check(&rt, alloc, "- a\n\n- b\n\nc\n\nd", 10, 2);
-    check(&rt, alloc, "> a\n\nb\n\nc", 1, 1);
+    check(&rt, alloc, "> a\n\nb\n\nc", 1, 2);
     check(&rt, alloc, "> a\n\nb\n\nc", 5, 2);
     check(&rt, alloc, "```\na\n\nb\n```\n\nc\n\nd", 1, 1);
     check(&rt, alloc, "```\na\n\nb\n```\n\nc\n\nd", 14, 2);
@@ -112,7 +112,7 @@ fn no_part_ends_in_a_block_or_after_an_item(rt: HostRuntime) {
         alloc,
         "a\n  \nb\n\nc\n===\n\n| d |\n| - |\n\ne\n\nf",
         1,
-        2,
+        3,
     );
 }
 

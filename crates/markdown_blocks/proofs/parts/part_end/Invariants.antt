@@ -1,8 +1,8 @@
-use Rattle.std.proofs.Common.{◌<◌, ◌-◌, length}
+use Rattle.std.proofs.Common.{◌≤◌, ◌-◌, length}
 use Rattle.markdown_blocks.proofs.parts.part_end.Given as goal
 
-abbrev pub invariant-loop-at : goal.invariant-loop-at
-invariant-loop-at l = l.from < l.at
+abbrev pub invariant-loop-begin : goal.invariant-loop-begin
+invariant-loop-begin l = record { after : l.from ≤ l.begin; within : l.begin ≤ length l.text }
 
-abbrev pub decreases-loop-at : goal.decreases-loop-at
-decreases-loop-at l = length l.text - l.at
+abbrev pub decreases-loop-begin : goal.decreases-loop-begin
+decreases-loop-begin l = length l.text - l.begin

@@ -1,0 +1,38 @@
+// What does not change while a page is written.
+
+use crate::notes::Notes;
+use crate::options::HtmlOptions;
+use crate::survey::Target;
+use md_engine::event::Event;
+use md_events::labels::Labels;
+use std::alloc::Global;
+
+/// The text, what is known of the whole of it, and what is asked for.
+#[derive(Clone, Copy)]
+pub(crate) struct Known<'a> {
+    pub(crate) alloc: Global,
+    pub(crate) bytes: &'a [u8],
+    pub(crate) events: &'a [Event],
+    pub(crate) options: &'a HtmlOptions<'a>,
+    /// The line ending of what the text does not have.
+    pub(crate) ending: &'static str,
+    /// Where each link and image leads, in the order of the text.
+    pub(crate) targets: &'a [Option<Target>],
+    pub(crate) notes: &'a Notes,
+    /// The normal forms of the labels of footnotes, in the order of the text.
+    pub(crate) forms: &'a [String],
+    pub(crate) labels: &'a Labels<'a>,
+}
+
+/// The first line ending of a text, or another if it has none.
+pub(crate) fn ending_of(bytes: &[u8], other: &'static str) -> &'static str {
+    let first = bytes.iter().position(|byte| matches!(*byte, b'\n' | b'\r'));
+    let Some(at) = first else {
+        return other;
+    };
+    match bytes.get(at..).unwrap_or(&[]) {
+        [b'\r', b'\n', ..] => "\r\n",
+        [b'\r', ..] => "\r",
+        _ => "\n",
+    }
+}

@@ -1,0 +1,145 @@
+// Which lists are loose (CommonMark 5.3).
+//
+// A list is loose if a blank line parts two of its items, or two blocks directly in one of its items. The events do not
+// say so, but a `BlankLineEnding` shows where a line is blank. Three of them part nothing in the list: that of an item,
+// or of a footnote definition, which begins on the line and has no text there; that of a quote within the list, whose
+// prefix is on the line, so that the line is blank in the quote alone; and that of a line which is the last one of an
+// open fence, math or HTML, as in `- ~~~`, an empty line, `- a`.
+
+use md_engine::event::{Event, Kind, Name};
+use md_events::names::{is_block, is_container};
+use std::alloc::{AllocError, Global};
+
+/// A block, list or item that is open.
+#[derive(Clone, Copy)]
+struct Open {
+    /// Of a list or an item, which list it is, by the order in which lists begin.
+    list: Option<usize>,
+    /// How many quotes are open outside of it, or with it if it is one.
+    quotes: usize,
+    /// Whether a part has ended directly in it.
+    has_part: bool,
+    /// Whether a blank line is after that part.
+    is_parted: bool,
+}
+
+/// What is known after some of the events.
+#[derive(Drop)]
+struct Walk {
+    /// Whether a list is loose, for each list that has begun.
+    loose: Vec<bool>,
+    /// The blocks, lists and items that are open, the innermost last.
+    open: Vec<Open>,
+    /// How many of them are quotes.
+    quotes: usize,
+    /// How many quotes have their prefix on this line.
+    prefixes: usize,
+    /// Whether an item or a footnote definition begins on this line.
+    begins: bool,
+    /// Whether a leaf block ends on this line.
+    ends: bool,
+}
+
+/// Whether each list is loose, in the order in which lists begin.
+pub(crate) fn loose_lists(alloc: Global, events: &[Event]) -> Result<Vec<bool>, AllocError> {
+    let mut walk = Walk {
+        loose: Vec::new(alloc),
+        open: Vec::new(alloc),
+        quotes: 0,
+        prefixes: 0,
+        begins: false,
+        ends: false,
+    };
+    for event in events {
+        match event.kind {
+            Kind::Enter if is_block(event.name) => walk.enter(event.name)?,
+            Kind::Exit if is_block(event.name) => walk.exit(event.name),
+            Kind::Exit => walk.read_line(event.name),
+            Kind::Enter => {}
+        }
+    }
+    Ok(walk.loose)
+}
+
+impl Walk {
+    /// Begins a block, list or item. A part that is parted from the one in front makes the list around it loose.
+    fn enter(&mut self, name: Name) -> Result<(), AllocError> {
+        let around = self.open.last().copied();
+        let list = around.and_then(|outer| outer.list);
+        if around.is_some_and(|outer| outer.is_parted) {
+            self.set_loose(list);
+        }
+        if name == Name::BlockQuote {
+            self.quotes = self.quotes.saturating_add(1);
+        }
+        let own = match name {
+            Name::ListOrdered | Name::ListUnordered => Some(self.loose.len()),
+            Name::ListItem => list,
+            _ => None,
+        };
+        if is_list(name) {
+            self.loose.push(false)?;
+        }
+        self.open.push(Open {
+            list: own,
+            quotes: self.quotes,
+            has_part: false,
+            is_parted: false,
+        })?;
+        Ok(())
+    }
+
+    /// Ends a block, list or item.
+    fn exit(&mut self, name: Name) {
+        if name == Name::BlockQuote {
+            self.quotes = self.quotes.saturating_sub(1);
+        }
+        self.ends = self.ends || !is_container(name);
+        let _ended = self.open.pop();
+        if let Some(outer) = self.open.last_mut() {
+            outer.has_part = true;
+            outer.is_parted = false;
+        }
+    }
+
+    /// Notes what is on the line, and where it ends.
+    fn read_line(&mut self, name: Name) {
+        match name {
+            Name::BlockQuotePrefix => self.prefixes = self.prefixes.saturating_add(1),
+            Name::ListItemPrefix | Name::GfmFootnoteDefinitionPrefix => self.begins = true,
+            Name::BlankLineEnding => {
+                self.part();
+                self.end_line();
+            }
+            Name::LineEnding => self.end_line(),
+            _ => {}
+        }
+    }
+
+    /// Notes that the line is blank.
+    fn part(&mut self) {
+        let is_inside = self.begins || self.ends;
+        let prefixes = self.prefixes;
+        if let Some(inner) = self.open.last_mut() {
+            if inner.has_part && !is_inside && prefixes <= inner.quotes {
+                inner.is_parted = true;
+            }
+        }
+    }
+
+    fn end_line(&mut self) {
+        self.prefixes = 0;
+        self.begins = false;
+        self.ends = false;
+    }
+
+    fn set_loose(&mut self, list: Option<usize>) {
+        if let Some(found) = list.and_then(|place| self.loose.get_mut(place)) {
+            *found = true;
+        }
+    }
+}
+
+fn is_list(name: Name) -> bool {
+    matches!(name, Name::ListOrdered | Name::ListUnordered)
+}

@@ -1,0 +1,51 @@
+// Laws of the inline layer, as functions whose contracts are the laws. What a text part means depends on its text (its
+// lines without container prefixes and indents), on its kind, and on the labels of its document; where the text begins
+// with the check of a task (GFM 5.3), also on whether it may have one, as the first paragraph of an item may. So parts
+// of a text and of that text in a container mean the same where they have the same text.
+
+ghost use Rattle.std.specs.Prelude.{◌≡◌, ℕ, true, List};
+ghost use Rattle.md_engine.specs.declared.configuration.ParseOptions as blocks;
+ghost use Rattle.md_engine.specs.declared.event.Event as event;
+ghost use Rattle.md_engine.specs.declared.parse_state.ParseState as parsed;
+ghost use Rattle.md_events.specs.TextPart.{Document, document_of};
+ghost use Rattle.md_inlines.specs.declared.InlineOptions as given;
+ghost use Rattle.md_meaning.specs.Wrapped.{IsItemable, IsQuotable, itemised, quoted};
+ghost use Rattle.md_wrap.specs.Footnoted.{footnoted, x_label};
+ghost use Rattle.markdown_inlines.specs.Alike.{HaveSameLabels, IsReadBy, MeanAlike, has_footnote};
+
+/// In documents with the same labels, parts of one kind with the same text mean the same, whatever else the documents
+/// have.
+pub fn parts_mean_what_their_texts_do()
+    ensures { (inlines : given.InlineOptions) (document other : Document)
+        → HaveSameLabels document other → MeanAlike inlines document other }
+{}
+
+/// So do a part of a text and a part of that text with `> ` before each line, where `parse_with` has read both with one
+/// layer.
+pub fn parts_in_a_quote_mean_the_same()
+    ensures { (inlines : given.InlineOptions) (options : blocks.ParseOptions) (text : List ℕ)
+        (events found : List event.Event) (state quote : parsed.ParseState)
+        → options.constructs.block_quote ≡ true → IsQuotable options text
+        → IsReadBy inlines text options events state → IsReadBy inlines (quoted text) options found quote
+        → MeanAlike inlines (document_of state) (document_of quote) }
+{}
+
+/// So do a part of a text and a part of that text with `+ ` before its first line and two spaces before each other.
+pub fn parts_in_an_item_mean_the_same()
+    ensures { (inlines : given.InlineOptions) (options : blocks.ParseOptions) (text : List ℕ)
+        (events found : List event.Event) (state item : parsed.ParseState)
+        → options.constructs.list_item ≡ true → IsItemable options text
+        → IsReadBy inlines text options events state → IsReadBy inlines (itemised text) options found item
+        → MeanAlike inlines (document_of state) (document_of item) }
+{}
+
+/// So do a part of a text and a part of that text with `[^x]: ` before its first line and four spaces before each
+/// other, where `x` is the label of a footnote in the text too: otherwise a call of it is one in the second alone.
+pub fn parts_in_a_footnote_mean_the_same()
+    ensures { (inlines : given.InlineOptions) (options : blocks.ParseOptions) (text : List ℕ)
+        (events found : List event.Event) (state footnote : parsed.ParseState)
+        → options.constructs.gfm_footnote_definition ≡ true → IsItemable options text
+        → IsReadBy inlines text options events state → IsReadBy inlines (footnoted text) options found footnote
+        → has_footnote x_label (document_of state) ≡ true
+        → MeanAlike inlines (document_of state) (document_of footnote) }
+{}

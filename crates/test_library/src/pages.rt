@@ -1,0 +1,217 @@
+// The HTML of texts: that of the rows, options, and what has a limit or none.
+
+use crate::page_rows::{
+    BLOCKS, DANGEROUS, EMPHASIS, FOOTNOTES, GITHUB, IMAGES, LINKS, LISTS, OTHERS, SAFE, TABLES,
+    TEXTS,
+};
+use markdown_blocks::configuration::ParseOptions;
+use markdown_blocks::message::Message;
+use markdown_blocks::parser::parse_with;
+use markdown_html::{HtmlOptions, LineEnding, html};
+use markdown_inlines::Inlines;
+use md_program::body::{Body, MOST};
+use printing::blocks::Blocks;
+use std::alloc::Global;
+use std::process::Abort;
+use std::test::Fail;
+
+/// Which constructs are on.
+#[derive(Clone, Copy)]
+struct Set {
+    blocks: ParseOptions,
+    inlines: Inlines,
+}
+
+const COMMONMARK: Set = Set {
+    blocks: ParseOptions::COMMONMARK,
+    inlines: Inlines::COMMONMARK,
+};
+
+const GFM: Set = Set {
+    blocks: ParseOptions::GFM,
+    inlines: Inlines::GFM,
+};
+
+const ALERTS: Set = Set {
+    blocks: ParseOptions::ALERTS,
+    inlines: Inlines::ALL,
+};
+
+/// The HTML of a text.
+fn page(alloc: Global, text: &str, set: Set, asked: &HtmlOptions) -> Result<String, Message> {
+    if text.len() > MOST {
+        return Err(Message);
+    }
+    let options = Blocks::built(set.blocks);
+    let (events, state) = parse_with(alloc, &set.inlines, text, &options)?;
+    html(alloc, &events, &state, asked)
+}
+
+/// Compares the HTML of texts with what is wanted.
+fn check(
+    rt: &impl Abort,
+    alloc: Global,
+    set: Set,
+    asked: &HtmlOptions,
+    rows: &[(&str, &str)],
+) -> Result<(), Message> {
+    for (text, want) in rows {
+        let found = page(alloc, text, set, asked)?;
+        assert!(rt; found.as_str() == *want, "{text}: {found}");
+    }
+    Ok(())
+}
+
+#[test]
+fn blocks_are_written(rt: HostRuntime) -> Result<(), Message> {
+    check(&rt, rt.alloc(), COMMONMARK, &HtmlOptions::SAFE, &BLOCKS)
+}
+
+#[test]
+fn lists_are_tight_or_loose(rt: HostRuntime) -> Result<(), Message> {
+    check(&rt, rt.alloc(), COMMONMARK, &HtmlOptions::SAFE, &LISTS)
+}
+
+#[test]
+fn texts_are_escaped_once(rt: HostRuntime) -> Result<(), Message> {
+    check(&rt, rt.alloc(), COMMONMARK, &HtmlOptions::SAFE, &TEXTS)
+}
+
+#[test]
+fn emphasis_is_written(rt: HostRuntime) -> Result<(), Message> {
+    check(&rt, rt.alloc(), COMMONMARK, &HtmlOptions::SAFE, &EMPHASIS)
+}
+
+#[test]
+fn links_lead_somewhere(rt: HostRuntime) -> Result<(), Message> {
+    check(&rt, rt.alloc(), COMMONMARK, &HtmlOptions::SAFE, &LINKS)
+}
+
+#[test]
+fn images_have_plain_texts(rt: HostRuntime) -> Result<(), Message> {
+    check(&rt, rt.alloc(), COMMONMARK, &HtmlOptions::SAFE, &IMAGES)
+}
+
+#[test]
+fn nothing_dangerous_is_written(rt: HostRuntime) -> Result<(), Message> {
+    check(&rt, rt.alloc(), COMMONMARK, &HtmlOptions::SAFE, &SAFE)
+}
+
+#[test]
+fn dangerous_things_may_be_allowed(rt: HostRuntime) -> Result<(), Message> {
+    check(
+        &rt,
+        rt.alloc(),
+        COMMONMARK,
+        &HtmlOptions::DANGEROUS,
+        &DANGEROUS,
+    )
+}
+
+#[test]
+fn tables_are_written(rt: HostRuntime) -> Result<(), Message> {
+    check(&rt, rt.alloc(), GFM, &HtmlOptions::SAFE, &TABLES)
+}
+
+#[test]
+fn extensions_are_written(rt: HostRuntime) -> Result<(), Message> {
+    check(&rt, rt.alloc(), GFM, &HtmlOptions::SAFE, &GITHUB)
+}
+
+#[test]
+fn footnotes_are_a_section(rt: HostRuntime) -> Result<(), Message> {
+    check(&rt, rt.alloc(), GFM, &HtmlOptions::SAFE, &FOOTNOTES)
+}
+
+#[test]
+fn the_others_are_written(rt: HostRuntime) -> Result<(), Message> {
+    check(&rt, rt.alloc(), ALERTS, &HtmlOptions::SAFE, &OTHERS)
+}
+
+/// Options of all kinds.
+const ASKED: HtmlOptions<'static> = HtmlOptions {
+    default_line_ending: LineEnding::CarriageReturnLineFeed,
+    gfm_footnote_label: "Notes & more",
+    gfm_footnote_label_tag_name: "h3",
+    gfm_footnote_label_attributes: "",
+    gfm_footnote_back_label: "Back",
+    gfm_footnote_clobber_prefix: "p-",
+    ..HtmlOptions::SAFE
+};
+
+const CALLED: &str =
+    "<p><sup><a href=\"#p-fn-a\" id=\"p-fnref-a\" data-footnote-ref=\"\" aria-describedby=\"footnote-label\">1</a\
+        ></sup></p>\n<section data-footnotes=\"\" class=\"footnotes\"><h3 id=\"footnote-label\">Notes &amp; more</h3\
+        >\n<ol>\n<li id=\"p-fn-a\">\n<p>b <a href=\"#p-fnref-a\" data-footnote-backref=\"\" aria-label=\"Back\" clas\
+        s=\"data-footnote-backref\">\u{21a9}</a></p>\n</li>\n</ol>\n</section>\n";
+
+#[test]
+fn options_are_taken(rt: HostRuntime) -> Result<(), Fail> {
+    let alloc = rt.alloc();
+    assert!(rt; page(alloc, "# a", COMMONMARK, &ASKED)?.as_str() == "<h1>a</h1>\r\n");
+    assert!(rt; page(alloc, "[^a]\n\n[^a]: b", GFM, &ASKED)?.as_str() == CALLED);
+    Ok(())
+}
+
+/// So many of a text, between two others.
+fn repeated(
+    alloc: Global,
+    before: &str,
+    text: &str,
+    count: usize,
+    after: &str,
+) -> Result<String, Message> {
+    let mut whole = String::from_str(alloc, before)?;
+    for _ in 0..count {
+        whole.push_str(text)?;
+    }
+    whole.push_str(after)?;
+    Ok(whole)
+}
+
+// What is in one another takes no stack.
+#[test]
+fn quotes_have_no_limit(rt: HostRuntime) -> Result<(), Fail> {
+    let alloc = rt.alloc();
+    let quotes = repeated(alloc, "", ">", 100_000, "a")?;
+    let found = page(alloc, quotes.as_str(), COMMONMARK, &HtmlOptions::SAFE)?;
+    // `<p>a</p>`, and around it `<blockquote>` and `</blockquote>`, each with a line ending
+    assert!(rt; found.len() == 9 + 100_000 * 27);
+    Ok(())
+}
+
+#[test]
+fn images_have_no_limit(rt: HostRuntime) -> Result<(), Fail> {
+    let alloc = rt.alloc();
+    let ends = repeated(alloc, "a", "](b)", 10_000, "")?;
+    let images = repeated(alloc, "", "![", 10_000, ends.as_str())?;
+    let found = page(alloc, images.as_str(), COMMONMARK, &HtmlOptions::SAFE)?;
+    assert!(rt; found.as_str() == "<p><img src=\"b\" alt=\"a\" /></p>\n");
+    Ok(())
+}
+
+// Many references to one long destination: after 100,000 bytes they lead nowhere.
+#[test]
+fn references_have_a_limit(rt: HostRuntime) -> Result<(), Fail> {
+    let alloc = rt.alloc();
+    let defined = repeated(alloc, "\n\n[a]: ", "b", 20_000, "")?;
+    let text = repeated(alloc, "", "[a].", 1000, defined.as_str())?;
+    let found = page(alloc, text.as_str(), COMMONMARK, &HtmlOptions::SAFE)?;
+    // `<p></p>` with a line ending; `<a href="..">a</a>.`; `a.`
+    assert!(rt; found.len() == 8 + 5 * 20_017 + 995 * 2);
+    Ok(())
+}
+
+// Many rows of one cell in a wide table: after 100,000 empty cells rows are short.
+#[test]
+fn empty_cells_have_a_limit(rt: HostRuntime) -> Result<(), Fail> {
+    let alloc = rt.alloc();
+    let head = repeated(alloc, "|", "a|", 1001, "\n|")?;
+    let delimiters = repeated(alloc, head.as_str(), "-|", 1001, "\n")?;
+    let text = repeated(alloc, delimiters.as_str(), "|b|\n", 1000, "")?;
+    let found = page(alloc, text.as_str(), GFM, &HtmlOptions::SAFE)?;
+    // the tags of the table, its head, its body and the row in its head; `<th>a</th>`; a row with `<td>b</td>`;
+    // `<td></td>`; each with a line ending
+    assert!(rt; found.len() == 62 + 1001 * 11 + 1000 * 22 + 100_000 * 10);
+    Ok(())
+}
