@@ -111,8 +111,8 @@ def places(value):
             yield from places(inner)
 
 
-def read_json(task, path, constructs, status=0):
-    printed = json.loads(run(task, "-f", "json", "-c", constructs, path, status=status))
+def read_json(task, path, constructs, status=0, words=()):
+    printed = json.loads(run(task, *words, "-f", "json", "-c", constructs, path, status=status))
     compare(f"{path}: {task}: file", [one["file"] for one in printed], [path])
     return printed[0]
 
@@ -135,9 +135,9 @@ def check(name):
     compare(f"{path}: headings as text", run("headings", "-c", constructs, path).split("\n")[:-1], lines)
     # Labels.
     status = 1 if wanted["labels"] else 0
-    printed = run("labels", "-c", constructs, path, status=status).split("\n")[:-1]
+    printed = run("labels", "--shortcuts", "-c", constructs, path, status=status).split("\n")[:-1]
     compare(f"{path}: labels", printed, [f"{path}:{label}" for label in wanted["labels"]])
-    findings = read_json("labels", path, constructs, status=status)["findings"]
+    findings = read_json("labels", path, constructs, status=status, words=["--shortcuts"])["findings"]
     lines = []
     for f in findings:
         start = f["position"]["start"]

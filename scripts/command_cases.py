@@ -4,11 +4,12 @@ import re
 import subprocess
 from collections import namedtuple
 
-from report_model import as_json, place_of_byte, report
-from report_texts import SETS, label_cases, models
+from report_model import as_json, headings, place_of_byte, report
+from report_texts import SETS, label_cases, link_cases, models, table_cases, tree_cases
+from report_trees import spans_json, spans_text, tree, tree_text
 
 Result = namedtuple("Result", "status stdout stderr")
-REPORTS = ("outline", "events", "html", "headings", "labels")
+REPORTS = ("outline", "events", "html", "headings", "labels", "links", "tree")
 
 # Where the output and the standard error go, as bash writes it.
 REDIRECTED = {"full": ">/dev/full", "no errors": "2>&-", "errors full": "2>/dev/full", "no input": "<&-"}
@@ -88,6 +89,7 @@ def sections():
 
 
 def columns(rows):
+    rows = [("    " + name if name.startswith("--") else name, text) for name, text in rows]
     width = max(len(name) for name, _ in rows) + 2
     return "".join(f"  {name:<{width}}{text}\n" for name, text in rows)
 
@@ -106,8 +108,9 @@ def help_cases():
     for word in ("--version", "-V"):
         yield Case([word], b"hoxalgurre 0.1.0\n")
     for task, text in commands[:-1]:
+        own = page.get(f"Options of {task}", [[]])[0]
         said = (f"{text}\n\nUsage: hoxalgurre {task} [OPTIONS] [FILE]...\n\nArguments:\n{columns(shared[:1])}\n"
-                f"Options:\n{columns(shared[1:])}")
+                f"Options:\n{columns(shared[1:-1] + own + shared[-1:])}")
         said += "\n" + paragraphs(page[f"Of {task}"][1]) if f"Of {task}" in page else ""
         for words in ([task, "--help"], [task, "-h"], ["help", task]):
             yield Case(words, said.encode(), is_plain=True)
@@ -128,6 +131,9 @@ def argument_cases(folder):
         (["html", "-x"], b"unexpected argument '-x' found"),
         (["events", "--format"], b"a value is required for '--format <FORMAT>' but none was supplied"),
         (["html", "-f", "text", "-f", "json"], b"the argument '--format <FORMAT>' cannot be used multiple times"),
+        (["tree", "--inlines"], b"unexpected argument '--inlines' found"),
+        (["outline", "--toc"], b"unexpected argument '--toc' found"),
+        (["labels", "--ignore"], b"a value is required for '--ignore <LABEL>' but none was supplied"),
     ]:
         yield Case(words, stderr=re.compile(b"error: " + re.escape(said) + b"\n.*", re.S), status=2, folder=folder)
     for name in ("blocks", "events"):
@@ -267,7 +273,8 @@ def failure_cases(files):
     yield Case(["outline", "\udcff.md"], b"", b"hoxalgurre: a file name or another argument is not UTF-8\n", 2)
     yield Case(["headings", ".", "empty.md"], b"==> empty.md <==\n", b"hoxalgurre: .: is a directory\n", 4, folder)
     for task in REPORTS:
-        yield Case([task, "-"], status=1 if task == "labels" else 0, stdin=b"# [a]", how="closed pipe")
+        status = 1 if task in ("labels", "links") else 0
+        yield Case([task, "-"], status=status, stdin=b"# [a][] [b](#c)", how="closed pipe")
         yield Case([task, "missing.md", "-"], b"", missing, 4, folder, b"# [a]", how="closed pipe")
     yield Case(["html", "/proc/self/mem"], b"", b"hoxalgurre: /proc/self/mem: read failed\n", 4)
     yield Case(["html"], b"", b"hoxalgurre: -: read failed\n", 4, how="no input")
@@ -289,34 +296,205 @@ def finding(source, line):
             "position": {"start": point(start), "end": point(end)}}
 
 
+class Group:
+    """Cases of one kind: each file alone, and all of a set together."""
+
+    def __init__(self, folder, words, has_heads):
+        self.folder, self.words, self.has_heads = folder, words, has_heads
+        self.together, self.alone = {}, []
+
+    def add(self, name, constructs, text, value, status=0):
+        """A file, with what is printed of it as text and as JSON."""
+        self.together.setdefault(constructs, []).append((name, text, value, status))
+        self.alone.append(Case([*self.words, "-c", constructs, name], text.encode(), b"", status, self.folder))
+
+    def cases(self):
+        for constructs, parts in self.together.items():
+            names, texts, values, statuses = zip(*parts)
+            heads = [f"==> {name} <==\n" if self.has_heads and len(names) > 1 else "" for name in names]
+            text = "".join(head + text for head, text in zip(heads, texts))
+            array, status, words = "[" + ",\n".join(values) + "]\n", max(statuses), [*self.words, "-c", constructs]
+            yield Case([*words, *names], text.encode(), b"", status, self.folder)
+            yield Case([*words, "-f", "json", *names], array.encode(), b"", status, self.folder)
+        yield from self.alone
+
+
+def written(folder, name, case):
+    """The text of a case, which is written to a file."""
+    with open(os.path.join(folder, name), "wb") as file:
+        file.write(case.text.encode())
+    return case.text.encode()
+
+
 def finding_cases(folder):
-    """The cases of labels, all together and each alone."""
-    together, alone = {}, []
+    """The cases of labels, with shortcuts and without, and labels that are left out."""
+    short, whole = Group(folder, ["labels", "--shortcuts"], False), Group(folder, ["labels"], False)
     for at, case in enumerate(label_cases()):
-        name, source = f"l{at}.md", case.text.encode()
-        with open(os.path.join(folder, name), "wb") as file:
-            file.write(source)
-        text = "".join(f"{name}:{line}\n" for line in case.wanted)
-        value = as_json(name, {"findings": [finding(source, line) for line in case.wanted]})
-        together.setdefault(case.constructs, []).append((name, text, value))
-        alone.append(Case(["labels", "-c", case.constructs, name], text.encode(), b"", 1 if text else 0, folder))
-    for constructs, parts in together.items():
-        names, texts, values = zip(*parts)
-        array, status = "[" + ",\n".join(values) + "]\n", 1 if any(texts) else 0
-        yield Case(["labels", "-c", constructs, *names], "".join(texts).encode(), b"", status, folder)
-        yield Case(["labels", "-c", constructs, "-f", "json", *names], array.encode(), b"", status, folder)
-    yield from alone
+        name = f"l{at}.md"
+        source = written(folder, name, case)
+        for group, wanted in ((short, [line.removeprefix("? ") for line in case.wanted]),
+                              (whole, [line for line in case.wanted if not line.startswith("? ")])):
+            text = "".join(f"{name}:{line}\n" for line in wanted)
+            value = as_json(name, {"findings": [finding(source, line) for line in wanted]})
+            group.add(name, case.constructs, text, value, 1 if text else 0)
+    yield from short.cases()
+    yield from whole.cases()
     one = b"-:1:1: undefined reference [a]\n"
     yield Case(["labels", "empty.md", "missing.md"], b"", b"hoxalgurre: missing.md: no such file\n", 4, folder)
-    yield Case(["labels", "-", "broken.md"], one, b"hoxalgurre: broken.md:2:2: not UTF-8\n", 2, folder, b"[a]")
-    yield Case(["labels"], one, b"", 1, stdin=b"[a]")
+    yield Case(["labels", "-", "broken.md"], one, b"hoxalgurre: broken.md:2:2: not UTF-8\n", 2, folder, b"[a][]")
+    yield Case(["labels"], one, b"", 1, stdin=b"[a][]")
     for label, is_one in ((b"a" * 999, True), (b"a" * 1000, False)):
         said = b"-:1:2: undefined reference [" + label + b"]\n" if is_one else b""
-        yield Case(["labels"], said, b"", 1 if is_one else 0, stdin=b"x[" + label + b"]")
-    yield Case(["labels"], b"", b"hoxalgurre: write failed\n", 4, stdin=b"[a]", how="full")
+        yield Case(["labels", "--shortcuts"], said, b"", 1 if is_one else 0, stdin=b"x[" + label + b"]")
+    yield Case(["labels", "--shortcuts"], stdin=b"[a](b '" + b"c" * 2000 + b"')")
+    several = b"[a][B] [b][] [^B] [^c] [C]"
+    for words, said in [
+        (["--ignore", " b ", "--ignore", "^C"], b"-:1:14: undefined footnote [b]\n"),
+        (["--ignore=c", "--ignore=^b"], b"-:1:4: undefined reference [b]\n-:1:8: undefined reference [b]\n"
+                                        b"-:1:19: undefined footnote [c]\n"),
+        (["--ignore=b", "--ignore=^b", "--ignore=^c"], b""),
+        (["--shortcuts", "--ignore=b", "--ignore=^b", "--ignore=^c"], b"-:1:24: undefined reference [c]\n"),
+    ]:
+        yield Case(["labels", *words], said, b"", 1 if said else 0, stdin=several)
+    yield Case(["labels", "--ignore=a"], b"-:1:1: unused definition [a]\n", b"", 1, stdin=b"[a]: /b")
+    yield Case(["labels"], b"", b"hoxalgurre: write failed\n", 4, stdin=b"[a][]", how="full")
+
+
+LINK = re.compile(r"(\d+):(\d+) (\d+)\.\.(\d+) (\w+) (.*?)(, no such heading)?(?: % (.*))?")
+
+
+def link(source, line):
+    """A link as text and as JSON, by its line in a case."""
+    row, column, start, end, kind, destination, broken, title = LINK.fullmatch(line).groups()
+    place = lambda at: dict(zip(("line", "column", "offset"), (*place_of_byte(source, at), at)))
+    if place_of_byte(source, int(start)) != (int(row), int(column)):
+        raise ValueError(f"the place of a link: {line}")
+    meant = destination.replace("%0A", "\n").replace("%0D", "\r")
+    is_own = meant.startswith("#") and meant.lower() not in ("#", "#top")
+    value = {"kind": kind, "position": {"start": place(int(start)), "end": place(int(end))}, "destination": meant,
+             "title": title, "has_heading": not broken if is_own else None}
+    return f"{row}:{column} {start}..{end} {kind} {destination}{broken or ''}\n", value
+
+
+def link_report_cases(folder):
+    group = Group(folder, ["links"], True)
+    for at, case in enumerate(link_cases()):
+        name = f"k{at}.md"
+        source = written(folder, name, case)
+        made = [link(source, line) for line in case.wanted]
+        is_broken = any(value["has_heading"] is False for _, value in made)
+        value = as_json(name, {"links": [value for _, value in made]})
+        group.add(name, case.constructs, "".join(text for text, _ in made), value, 1 if is_broken else 0)
+    yield from group.cases()
+    both = b"==> - <==\n1:1 0..7 link #b, no such heading\n==> empty.md <==\n"
+    yield Case(["links", "-", "empty.md"], both, b"", 1, folder, b"[a](#b)")
+    yield Case(["links"], b"", b"hoxalgurre: write failed\n", 4, stdin=b"[a](b)", how="full")
+
+
+ENTRY = re.compile(r"( *)- \[(.*)\]\(#(.*)\)")
+
+
+def entry(model, at, line):
+    """An item of a table of contents as JSON."""
+    indent, text, anchor = ENTRY.fullmatch(line).groups()
+    heading = [found for found in headings(model) if found["text"]][at]
+    is_text = re.sub(r"\\(.)", r"\1", text)
+    if "\n" in model.source[heading["position"]["start"]["offset"]:heading["position"]["end"]["offset"]].decode().split("===")[0][:-1]:
+        is_text = is_text.replace(" ", "\n", 1)
+    return {"depth": heading["depth"], "level": len(indent) // 2, "text": is_text, "anchor": anchor,
+            "position": heading["position"]}
+
+
+def table_report_cases(folder):
+    group, cases = Group(folder, ["headings", "--toc"], True), table_cases()
+    made = models([(case.text.encode(), case.constructs) for case in cases])
+    for at, case in enumerate(cases):
+        name = f"t{at}.md"
+        model = made[written(folder, name, case), case.constructs]
+        entries = [entry(model, at, line) for at, line in enumerate(case.wanted.split("\n")[:-1])]
+        group.add(name, case.constructs, case.wanted, as_json(name, {"toc": entries}))
+    yield from group.cases()
+
+
+def tree_report_cases(folder):
+    """The cases of trees, and the outlines with what is in their blocks."""
+    alone, shown, cases = Group(folder, ["tree"], False), Group(folder, ["outline", "--inlines"], True), tree_cases()
+    made = models([(case.text.encode(), case.constructs) for case in cases])
+    for at, case in enumerate(cases):
+        name = f"n{at}.md"
+        source = written(folder, name, case)
+        model, root = made[source, case.constructs], tree(source, case.wanted)
+        value = f'{{"file":"{name}","tree":{tree_text(root)}}}'
+        alone.add(name, case.constructs, tree_text(root) + "\n", value)
+        shown.add(name, case.constructs, spans_text(model, root), spans_json(name, model, root))
+    yield from alone.cases()
+    yield from shown.cases()
+    # Depth takes no stack.
+    deep = 200
+    yield Case(["tree"], nested(deep).encode(), stdin=b"> " * deep + b"a")
+
+
+def nested(deep):
+    """The tree of a paragraph in so many quotes."""
+    place = lambda at: f'{{"line":1,"column":{at + 1},"offset":{at}}}'
+    node = lambda kind, at: f'{{"type":"{kind}","position":{{"start":{place(at)},"end":{place(2 * deep + 1)}}},"children":['
+    text = f'{{"type":"text","value":"a","position":{{"start":{place(2 * deep)},"end":{place(2 * deep + 1)}}}}}'
+    begins = node("root", 0) + "".join(node("blockquote", 2 * at) for at in range(deep)) + node("paragraph", 2 * deep)
+    return begins + text + "]}" * (deep + 2) + "\n"
+
+
+# The parts of `*a* [b](c)`, which is on one line.
+INLINE_PARTS = """Paragraph 0..10
+  Emphasis 0..3
+    EmphasisSequence 0..1
+    EmphasisText 1..2
+      Data 1..2
+    EmphasisSequence 2..3
+  Data 3..4
+  Link 4..10
+    Label 4..7
+      LabelLink 4..5
+        LabelMarker 4..5
+      LabelText 5..6
+        Data 5..6
+      LabelEnd 6..7
+        LabelMarker 6..7
+    Resource 7..10
+      ResourceMarker 7..8
+      ResourceDestination 8..9
+        ResourceDestinationRaw 8..9
+          ResourceDestinationString 8..9
+            Data 8..9
+      ResourceMarker 9..10
+"""
+
+
+def inline_event_cases():
+    """Events with inline content."""
+    lines, values, opened = [], [], []
+
+    def leave(depth):
+        while len(opened) > depth:
+            event("-", *opened.pop())
+
+    def event(sign, depth, name, at, end):
+        at = at if sign == "+" else end
+        lines.append(f"{'  ' * depth}{sign} {name} 1 {at + 1} {at} 0\n")
+        values.append({"kind": "enter" if sign == "+" else "exit", "name": name,
+                       "place": {"line": 1, "column": at + 1, "offset": at}, "virtual_spaces": 0})
+
+    for line in INLINE_PARTS.splitlines():
+        indent, name, start, end = re.fullmatch(r"( *)(\w+) (\d+)\.\.(\d+)", line).groups()
+        leave(len(indent) // 2)
+        opened.append((len(indent) // 2, name, int(start), int(end)))
+        event("+", *opened[-1])
+    leave(0)
+    yield Case(["events", "--inlines"], "".join(lines).encode(), stdin=b"*a* [b](c)")
+    yield Case(["events", "--inlines", "-fjson"], f"[{as_json('-', {'events': values})}]\n".encode(), stdin=b"*a* [b](c)")
 
 
 def command_cases(folder):
     """All cases; files are written to the folder."""
     files = Files(folder)
-    return [*help_cases(), *argument_cases(folder), *file_cases(files), *failure_cases(files), *finding_cases(folder)]
+    return [*help_cases(), *argument_cases(folder), *file_cases(files), *failure_cases(files), *finding_cases(folder),
+            *link_report_cases(folder), *table_report_cases(folder), *tree_report_cases(folder), *inline_event_cases()]

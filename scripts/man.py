@@ -42,18 +42,27 @@ def page():
             made += ".SH OPTIONS\n" + listed(part)
         elif not part[0].startswith("Usage:"):
             rest += ".PP\n" + escaped("\n".join(part)) + "\n"
-    own, notes = [], ""
+    helps = {name: {part[0]: part for part in help_of(name)[1:]} for name in commands}
+    shared = [part["Arguments:"] for part in helps.values()]
+    if any(part != shared[0] for part in shared):
+        sys.exit("man: the commands do not have the same arguments")
+    options = {name: part["Options:"] for name, part in helps.items()}
+    is_shared = lambda line: all(words_of(line) in map(words_of, part) for part in options.values())
+    made += ".SS Of each command\n" + listed(shared[0]) + listed([line for line in options[commands[0]] if is_shared(line)])
     for name in commands:
-        for part in help_of(name)[1:]:
-            if part[0] in ("Options:", "Arguments:"):
-                own.append(listed(part))
-            elif not part[0].startswith("Usage:"):
-                notes += f".SS Of {name}\n" + escaped("\n".join(part)) + "\n"
-    shared = list(dict.fromkeys(own))
-    if len(shared) != 2:
-        sys.exit("man: the commands do not have the same options")
-    made += ".SS Of each command\n" + "".join(shared) + ".SH NOTES\n" + rest + notes
+        own = [line for line in options[name] if not is_shared(line)]
+        made += f".SS Options of {name}\n" + listed(["", *own]) if own else ""
+    made += ".SH NOTES\n" + rest
+    for name, parts in helps.items():
+        for head, part in parts.items():
+            if head not in ("Options:", "Arguments:") and not head.startswith("Usage:"):
+                made += f".SS Of {name}\n" + escaped("\n".join(part)) + "\n"
     return made
+
+
+def words_of(line):
+    """A line of a help text, however wide its columns are."""
+    return line.split()
 
 
 if not os.path.isfile(PROGRAM):

@@ -303,10 +303,10 @@ def refuse_text(name, text, given):
 
 def refuse_report(report, form):
     """Refuses the requests of `hoxalgurre` on a text that it also has labels to complain of."""
-    text = WHOLE + b"\n[1] [^2] `[3]`\n"
-    command = [program("hoxalgurre"), report, "-c", "alerts", "-f", form]
+    text = WHOLE + b"\n[1][] [^2] `[3]` [*4* &amp;](#5 '6') <http://7> ![8][1]\n\n[1]: /9\n"
+    command = [program("hoxalgurre"), *report.split(), "-c", "alerts", "-f", form]
     right = run(command, text, 0)[0]
-    if right[0] != (report == "labels") or right[2] or not right[1]:
+    if right[0] != (report in ("labels", "links")) or right[2] or not right[1]:
         return 0, f"{command}, nothing refused: status, output and complaint {right}"
     begins = [b"", b"[", b"[]\n"] if form == "json" else [b""]
     return each_refused(command, text, right, begins, [b"hoxalgurre: out of memory\n", b"hoxalgurre: -: out of memory\n"])
@@ -324,7 +324,7 @@ def texts_of(name):
 # Each task: what it belongs to, and the call that does it.
 tasks = [(word, lambda word=word: refuse_call(word)) for word in CALLS]
 tasks += [(name, lambda name=name, it=it: refuse_text(name, *it)) for name in PROGRAMS for it in texts_of(name)]
-for report in ("outline", "events", "html", "headings", "labels"):
+for report in ("outline", "events", "html", "headings", "labels", "links", "tree", "outline --inlines", "headings --toc"):
     for form in ("text", "json"):
         tasks.append(("hoxalgurre", lambda report=report, form=form: refuse_report(report, form)))
 with concurrent.futures.ThreadPoolExecutor(os.cpu_count()) as pool:

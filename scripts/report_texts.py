@@ -13,7 +13,7 @@ SETS = ("commonmark", "gfm", "all", "alerts")
 NAMED = {"n": "\n", "r": "\r", "t": "\t", "0": "\0"}
 ESCAPE = re.compile(r"\\(?:u\{([0-9a-f]+)\}|(.))", re.S)
 # How many rows and cases there are at least.
-LEAST_ROWS, LEAST_PAGES, LEAST_LABELS = 1026, 178, 112
+LEAST_ROWS, LEAST_PAGES, LEAST_LABELS, LEAST_LINKS, LEAST_TABLES, LEAST_TREES = 1026, 178, 136, 25, 12, 29
 
 Row = namedtuple("Row", "constructs text output")
 Sample = namedtuple("Sample", "line constructs text wanted")
@@ -90,10 +90,26 @@ def label_cases():
     return [case._replace(wanted=case.wanted.split("\n")[:-1]) for case in samples("examples/cases/labels.txt", LEAST_LABELS)]
 
 
+def link_cases():
+    """Texts with what `links` has to print."""
+    return [case._replace(wanted=case.wanted.split("\n")[:-1]) for case in samples("examples/cases/links.txt", LEAST_LINKS)]
+
+
+def table_cases():
+    """Texts with their tables of contents."""
+    return samples("examples/cases/toc.txt", LEAST_TABLES)
+
+
+def tree_cases():
+    """Texts with their trees, as the file writes them."""
+    return samples("examples/cases/tree.txt", LEAST_TREES)
+
+
 def texts():
     """All texts, as bytes, in groups without repeats: first the short ones, then rows, then files."""
     files = [open(path, "rb").read() for path in sorted(glob.glob("examples/texts/*.md"))]
-    short = [text.encode() for text in MADE + [sample.text for sample in pages() + label_cases()]]
+    short = [text.encode() for text in MADE + [sample.text for sample in
+                                                 pages() + label_cases() + link_cases() + table_cases() + tree_cases()]]
     groups, seen = [], set()
     for group in (short, [row.text.encode() for row in rows()], files):
         groups.append([text for text in dict.fromkeys(group) if text not in seen])

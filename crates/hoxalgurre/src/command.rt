@@ -1,31 +1,39 @@
 // The arguments of the program, and what its help says. The manual page is made from the help.
 
-use clap::{Arg, Command};
+use clap::{Arg, ArgAction, Command};
 use std::alloc::{AllocError, Global};
 
-const ABOUT: &str = "Reports the blocks of Markdown texts.";
+const ABOUT: &str = "Reports what is in Markdown texts.";
 
 const AFTER: &str =
     "Texts are UTF-8, and so are the names of files. Lines and columns count from 1, bytes from 0; a tab
 reaches to the next multiple of 4 columns, and every other byte is one column. The JSON is one array
 with an object for each file.
 
-Status: 0 where nothing is wrong, 1 where `labels` has found something, 2 where an argument or a
-text is not what the program takes, 3 where memory ran out, 4 where a file cannot be read or the
+Status: 0 where nothing is wrong, 1 where `labels` or `links` has found something, 2 where an argument
+or a text is not what the program takes, 3 where memory ran out, 4 where a file cannot be read or the
 output not be written. Of several files the highest counts. Where the reader of a pipe has enough,
 the program ends without a message, with the status of the files until then.";
 
 const AFTER_LABELS: &str =
-    "References are found by a scan that is wrong in these cases: what is from `<` and a letter, `/`, `!`
-or `?` to the next `>` counts as a tag; what looks like a task box or an alert counts as one at the
-start of a quote, an item or a heading in them; `[^a b]` counts as a footnote; `[a\\|b]` in a cell
-keeps its backslash; an inline link with a title above 1,999 bytes is none; `[a][ ]` is no reference.";
+    "A reference is text in brackets that a definition of its label alone would make a link, an image or
+the call of a footnote.";
+
+const AFTER_LINKS: &str =
+    "A link to `#anchor` is wrong if no heading has that anchor, by the rule of GitHub: the text of the
+heading in lower case, with `-` for each space, and without all but letters, marks, digits, `-` and
+`_`; the second heading with the same has `-1` after it, the third `-2`. `#` and `#top` lead to the
+top. Links in raw HTML are not read.";
+
+const AFTER_TREE: &str =
+    "The tree is that of mdast, with an object for each node. Blocks begin with their indent. With
+`--format text` each tree is on a line of its own, without the name of the file.";
 
 const SETS: [&str; 4] = ["commonmark", "gfm", "all", "alerts"];
 
 const FORMATS: [&str; 2] = ["text", "json"];
 
-/// The command with its five subcommands.
+/// The command with its subcommands.
 pub(crate) fn command<'a>(alloc: Global) -> Result<Command<'a>, AllocError> {
     Command::new(alloc, "hoxalgurre")
         .version("0.1.0")
@@ -33,32 +41,87 @@ pub(crate) fn command<'a>(alloc: Global) -> Result<Command<'a>, AllocError> {
         .after_help(AFTER)
         .subcommand_required(true)
         .arg_required_else_help(true)
-        .subcommand(task(
-            alloc,
-            "outline",
-            "Prints the blocks, each with its line, column and bytes, and their texts",
-        )?)?
-        .subcommand(task(
-            alloc,
-            "events",
-            "Prints the events, each with line, column, byte, and the columns of a cut tab",
-        )?)?
+        .subcommand(outline(alloc)?)?
+        .subcommand(events(alloc)?)?
         .subcommand(task(
             alloc,
             "html",
             "Prints the blocks as HTML, with the text in them as it is in the source",
         )?)?
+        .subcommand(headings(alloc)?)?
+        .subcommand(labels(alloc)?)?
         .subcommand(task(
             alloc,
-            "headings",
-            "Prints a table of contents: each heading with the bytes of its section",
-        )?)?
-        .subcommand(task(
+            "links",
+            "Prints links, images and autolinks, and which lead to no heading",
+        )?
+        .after_help(AFTER_LINKS))?
+        .subcommand(task(alloc, "tree", "Prints the syntax tree as JSON")?.after_help(AFTER_TREE))
+}
+
+fn outline<'a>(alloc: Global) -> Result<Command<'a>, AllocError> {
+    task(
+        alloc,
+        "outline",
+        "Prints the blocks, each with its line, column and bytes, and their texts",
+    )?
+    .arg(flag(
+        alloc,
+        "inlines",
+        "Prints what is in paragraphs, headings and cells too",
+    ))
+}
+
+fn events<'a>(alloc: Global) -> Result<Command<'a>, AllocError> {
+    task(
+        alloc,
+        "events",
+        "Prints the events, each with line, column, byte, and the columns of a cut tab",
+    )?
+    .arg(flag(alloc, "inlines", "Prints those of inline content too"))
+}
+
+fn headings<'a>(alloc: Global) -> Result<Command<'a>, AllocError> {
+    task(
+        alloc,
+        "headings",
+        "Prints a table of contents: each heading with the bytes of its section",
+    )?
+    .arg(flag(
+        alloc,
+        "toc",
+        "Prints it as a nested list of links in Markdown",
+    ))
+}
+
+fn labels<'a>(alloc: Global) -> Result<Command<'a>, AllocError> {
+    let ignore = Arg::new(alloc, "ignore")
+        .long("ignore")
+        .value_name("LABEL")
+        .action(ArgAction::Append)
+        .help("A label that may be undefined, of a footnote with its `^`");
+    Ok(
+        task(
             alloc,
             "labels",
             "Prints duplicate definitions, references without one, and unused definitions",
         )?
-        .after_help(AFTER_LABELS))
+        .arg(flag(
+            alloc,
+            "shortcuts",
+            "Takes `[a]` for a reference too, and not `[a][b]` and `[a][]` alone",
+        ))?
+        .arg(ignore)?
+        .after_help(AFTER_LABELS),
+    )
+}
+
+/// An argument that is given or not.
+fn flag<'a>(alloc: Global, name: &'static str, help: &'static str) -> Arg<'a> {
+    Arg::new(alloc, name)
+        .long(name)
+        .action(ArgAction::SetTrue)
+        .help(help)
 }
 
 /// A subcommand, with the arguments that all of them have.

@@ -1,16 +1,28 @@
 // What the program `hoxalgurre` prints of a text.
 //
-// `report` (`report_on`) reads a text and makes one of five reports. The others make what it needs: `outline` the blocks
-// with their places, `events` the records of events, `headings` a table of contents, `labels` what is wrong with labels,
-// from the references that `references` finds by `inline`. `parts` reads the text for all but the events. `position` has
-// the places of all reports.
+// `report` (`report_on`) reads a text and makes one of seven reports. The others make what it needs: `outline` the
+// blocks with their places, `spans` what is in them, `events` the records of events, `headings` the sections of a text,
+// `toc` a table of contents, `labels` what is wrong with labels, from the references that `references` finds, `links`
+// the links, and `tree` the syntax tree. `parts` reads a text part by part, `layer` with its inline content. `builder`
+// makes the tree that `nodes` has, from the texts that `meaning` and `source` read, by the names of events (`names`);
+// `anchors` are those of its headings. `position` has the places of all reports.
 
+mod anchors;
+mod builder;
 mod events;
 mod headings;
-mod inline;
 mod labels;
+mod layer;
+mod links;
+mod meaning;
+mod names;
+mod nodes;
 mod outline;
 mod parts;
 pub mod position;
 mod references;
 pub mod report;
+mod source;
+mod spans;
+mod toc;
+mod tree;

@@ -3,7 +3,7 @@
 ghost use Rattle.markdown_blocks.specs.Parsed.{IsWithoutMdx};
 
 use crate::input::{place_of, read};
-use crate::reports::report::{Format, Report, Task, report_on};
+use crate::reports::report::{Format, Report, Task, Wish, report_on};
 use crate::trouble::Trouble;
 use clap::ArgMatches;
 use markdown_blocks::configuration::ParseOptions;
@@ -37,8 +37,15 @@ fn task_of(name: &str) -> Task {
         "events" => Task::Events,
         "html" => Task::Html,
         "headings" => Task::Headings,
+        "links" => Task::Links,
+        "tree" => Task::Tree,
         _ => Task::Labels,
     }
+}
+
+/// Whether the reports of several files are told apart by lines between them.
+fn has_head(task: Task) -> bool {
+    !matches!(task, Task::Html | Task::Labels | Task::Tree)
 }
 
 /// The report of a file.
@@ -55,7 +62,7 @@ fn report_file(rt: &HostRuntime, asked: Asked<'_>, file: &str) -> Result<Report,
         Err(error) => return Err(no_text(bytes.as_slice(), error.valid_up_to())),
     };
     let set = set_of(asked.constructs);
-    match report_on(rt.alloc(), asked.task, asked.format, file, text, set) {
+    match report_on(rt.alloc(), asked.wish, file, text, set) {
         Ok(report) => Ok(report),
         Err(_) => Err(refused(Trouble::OutOfMemory)),
     }
@@ -82,8 +89,7 @@ fn no_text(bytes: &[u8], valid: usize) -> Refusal {
 /// What is asked of all files.
 #[derive(Clone, Copy)]
 struct Asked<'a> {
-    task: Task,
-    format: Format,
+    wish: Wish<'a>,
     constructs: Option<&'a str>,
     /// Whether a line with the name is before each report.
     has_heads: bool,
@@ -99,12 +105,17 @@ pub(crate) fn run_all(
     let files = chosen.get_strs("FILE").unwrap_or(&[]);
     let files = if files.is_empty() { &["-"] } else { files };
     let is_json = chosen.get_str("format") == Some("json");
-    let task = task_of(name);
     let asked = Asked {
-        task,
-        format: if is_json { Format::Json } else { Format::Text },
+        wish: Wish {
+            task: task_of(name),
+            format: if is_json { Format::Json } else { Format::Text },
+            has_inlines: chosen.get_flag("inlines"),
+            has_toc: chosen.get_flag("toc"),
+            has_shortcuts: chosen.get_flag("shortcuts"),
+            ignored: chosen.get_strs("ignore").unwrap_or(&[]),
+        },
         constructs: chosen.get_str("constructs"),
-        has_heads: files.len() > 1 && !is_json && task != Task::Html && task != Task::Labels,
+        has_heads: files.len() > 1 && !is_json && has_head(task_of(name)),
     };
     let mut status = 0;
     match print_all(rt, asked, files, &mut status) {
@@ -120,7 +131,7 @@ fn print_all(
     files: &[&str],
     status: &mut u8,
 ) -> Result<(), Trouble> {
-    let is_json = asked.format == Format::Json;
+    let is_json = asked.wish.format == Format::Json;
     let mut is_first = true;
     if is_json {
         print(rt, "[")?;

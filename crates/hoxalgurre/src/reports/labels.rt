@@ -3,15 +3,15 @@
 // A definition whose label one before it has is a duplicate, and is never used (CommonMark 6.3). A reference that no
 // definition, or no footnote definition, answers is text. A definition that no reference names shows nothing.
 
-use crate::reports::parts::OfParts;
 use crate::reports::position::{Place, Position};
-use crate::reports::references::{Reference, push_all};
+use crate::reports::references::{Form, Reference, references};
 use markdown_blocks::event::{Event, Kind, Name};
+use markdown_blocks::label::normal_form;
 use markdown_blocks::message::Message;
-use markdown_blocks::parser::{ParseState, Part};
+use markdown_blocks::parser::ParseState;
 use serde::Serialize;
 use std::alloc::{AllocError, Global};
-use std::collections::BTreeMap;
+use std::collections::{BTreeMap, BTreeSet};
 
 /// Something that is wrong.
 #[derive(Drop, Serialize)]
@@ -51,104 +51,86 @@ const FOOTNOTES: Names = Names {
 
 /// Definitions of links or of footnotes, in the order of the text.
 #[derive(Drop)]
-struct Defined {
+struct Defined<'a> {
     /// Where their labels are.
     positions: Vec<Position>,
     /// These in their normal forms.
-    labels: Vec<String>,
+    labels: &'a [String],
 }
 
-impl Defined {
-    fn new(alloc: Global) -> Defined {
-        Defined {
-            positions: Vec::new(alloc),
-            labels: Vec::new(alloc),
-        }
-    }
-
-    /// Appends those of some blocks: their labels, and where the parts of this name are.
-    fn push(
-        &mut self,
-        events: &[Event],
-        name: Name,
-        labels: &mut Vec<String>,
-    ) -> Result<(), AllocError> {
-        push_positions(&mut self.positions, events, name)?;
-        self.labels.append(labels)
-    }
-}
-
-/// The definitions and the references of a text, as far as it is read.
+/// Which references are findings.
 #[derive(Drop)]
-pub(crate) struct Labels {
-    alloc: Global,
-    references: Vec<Reference>,
-    links: Defined,
-    notes: Defined,
+pub(crate) struct Wanted {
+    has_shortcuts: bool,
+    /// The normal forms of labels that may be undefined, of footnotes with the `^`.
+    ignored: BTreeSet<String>,
 }
 
-impl Labels {
-    pub(crate) fn new(alloc: Global) -> Labels {
-        Labels {
-            alloc,
-            references: Vec::new(alloc),
-            links: Defined::new(alloc),
-            notes: Defined::new(alloc),
+impl Wanted {
+    /// Findings but for references with these labels. An `Err` says that memory ran out.
+    pub(crate) fn new(
+        alloc: Global,
+        has_shortcuts: bool,
+        ignored: &[&str],
+    ) -> Result<Wanted, Message> {
+        let mut forms = BTreeSet::new(alloc);
+        for label in ignored {
+            insert(&mut forms, normal_form(alloc, &[*label])?)?;
         }
+        Ok(Wanted {
+            has_shortcuts,
+            ignored: forms,
+        })
     }
 
-    /// All that is wrong, in the order of the text. An `Err` says that memory ran out.
-    pub(crate) fn findings(&self) -> Result<Vec<Finding>, Message> {
-        let mut found = Vec::new(self.alloc);
-        check(
-            self.alloc,
-            &mut found,
-            &DEFINITIONS,
-            &self.links,
-            &self.references,
-        )?;
-        check(
-            self.alloc,
-            &mut found,
-            &FOOTNOTES,
-            &self.notes,
-            &self.references,
-        )?;
-        found.sort_by_key(|finding| finding.position.start.offset)?;
-        Ok(found)
+    /// Whether a reference that nothing defines is a finding.
+    fn wants(&self, alloc: Global, reference: &Reference) -> Result<bool, AllocError> {
+        if reference.form == Form::Shortcut && !self.has_shortcuts {
+            return Ok(false);
+        }
+        if reference.form != Form::Footnote {
+            return Ok(!self.ignored.contains(reference.label.as_str()));
+        }
+        let mut called = String::from_str(alloc, "^")?;
+        called.push_str(reference.label.as_str())?;
+        Ok(!self.ignored.contains(called.as_str()))
     }
 }
 
-impl<'a> OfParts<'a> for Labels {
-    fn take(&mut self, part: &mut Part, state: &ParseState<'a>) -> Result<(), Message> {
-        let Part {
-            events,
-            definitions,
-            gfm_footnote_definitions,
-        } = part;
-        push_all(
-            self.alloc,
-            &mut self.references,
-            events,
-            state.bytes,
-            state.options,
-        )?;
-        self.links.push(events, Name::DefinitionLabel, definitions)?;
-        self.notes.push(
-            events,
-            Name::GfmFootnoteDefinitionLabel,
-            gfm_footnote_definitions,
-        )?;
-        Ok(())
+fn insert(forms: &mut BTreeSet<String>, form: String) -> Result<(), Message> {
+    match forms.insert(form) {
+        Ok(_) => Ok(()),
+        Err(_) => Err(Message),
     }
 }
 
-/// Appends where the parts of this name are, in the order of the text.
-fn push_positions(
-    positions: &mut Vec<Position>,
+/// All that is wrong with the labels of a text, in its order. An `Err` says that memory ran out.
+pub(crate) fn findings(
+    alloc: Global,
     events: &[Event],
-    name: Name,
-) -> Result<(), AllocError> {
+    state: &ParseState<'_>,
+    wanted: &Wanted,
+) -> Result<Vec<Finding>, Message> {
+    let has_footnotes = state.options.constructs.gfm_footnote_definition;
+    let references = references(alloc, events, state.bytes, has_footnotes)?;
+    let links = Defined {
+        positions: positions(alloc, events, Name::DefinitionLabel)?,
+        labels: &state.definitions,
+    };
+    let notes = Defined {
+        positions: positions(alloc, events, Name::GfmFootnoteDefinitionLabel)?,
+        labels: &state.gfm_footnote_definitions,
+    };
+    let mut found = Vec::new(alloc);
+    check(alloc, &mut found, &DEFINITIONS, &links, &references, wanted)?;
+    check(alloc, &mut found, &FOOTNOTES, &notes, &references, wanted)?;
+    found.sort_by_key(|finding| finding.position.start.offset)?;
+    Ok(found)
+}
+
+/// Where the parts of this name are, in the order of the text.
+fn positions(alloc: Global, events: &[Event], name: Name) -> Result<Vec<Position>, AllocError> {
+    let mut positions = Vec::new(alloc);
     let mut start = Place {
         line: 1,
         column: 1,
@@ -161,7 +143,7 @@ fn push_positions(
             Kind::Exit => positions.push(Position { start, end: here })?,
         }
     }
-    Ok(())
+    Ok(positions)
 }
 
 /// A definition that is the first with its label.
@@ -176,7 +158,7 @@ fn firsts<'a>(
     alloc: Global,
     found: &mut Vec<Finding>,
     names: &Names,
-    defined: &'a Defined,
+    defined: &Defined<'a>,
 ) -> Result<BTreeMap<&'a str, First>, AllocError> {
     let mut firsts: BTreeMap<&'a str, First> = BTreeMap::new(alloc);
     for (position, label) in defined.positions.iter().zip(defined.labels.iter()) {
@@ -204,22 +186,18 @@ fn check(
     alloc: Global,
     found: &mut Vec<Finding>,
     names: &Names,
-    defined: &Defined,
+    defined: &Defined<'_>,
     references: &[Reference],
+    wanted: &Wanted,
 ) -> Result<(), AllocError> {
     let mut firsts = firsts(alloc, found, names, defined)?;
     for reference in references {
-        if reference.is_footnote != names.is_footnote {
+        if (reference.form == Form::Footnote) != names.is_footnote {
             continue;
         }
         match firsts.get_mut(reference.label.as_str()) {
             Some(first) => first.is_used = true,
-            None => found.push(Finding {
-                problem: names.undefined,
-                label: reference.label.clone()?,
-                first_line: None,
-                position: reference.position,
-            })?,
+            None => push_undefined(alloc, found, names, reference, wanted)?,
         }
     }
     for (label, first) in firsts.iter().filter(|(_, first)| !first.is_used) {
@@ -230,6 +208,29 @@ fn check(
             position: first.position,
         })?;
     }
+    Ok(())
+}
+
+/// Appends a reference that nothing defines, if it is a finding.
+fn push_undefined(
+    alloc: Global,
+    found: &mut Vec<Finding>,
+    names: &Names,
+    reference: &Reference,
+    wanted: &Wanted,
+) -> Result<(), AllocError> {
+    let Some(position) = reference.position else {
+        return Ok(());
+    };
+    if !wanted.wants(alloc, reference)? {
+        return Ok(());
+    }
+    found.push(Finding {
+        problem: names.undefined,
+        label: reference.label.clone()?,
+        first_line: None,
+        position,
+    })?;
     Ok(())
 }
 

@@ -2,13 +2,22 @@
 
 ghost use Rattle.markdown_blocks.specs.Parsed.{IsSmall, IsWithoutMdx};
 
+use crate::reports::anchors::anchors;
+use crate::reports::builder::nodes_of;
 use crate::reports::events::{Record, records};
 use crate::reports::headings::{Heading, Headings, end_sections, push_headings};
-use crate::reports::labels::{Finding, Labels, push_findings};
+use crate::reports::labels::{Finding, Wanted, findings, push_findings};
+use crate::reports::layer::parse_inlines;
+use crate::reports::links::{LinkRecord, count_broken, links, push_links};
+use crate::reports::nodes::Node;
 use crate::reports::outline::{Block, OutlineBlocks, OutlineText};
 use crate::reports::parts::hand_out;
+use crate::reports::spans::{OutlineSpans, Span, spans};
+use crate::reports::toc::{Entry, entries, push_entries};
+use crate::reports::tree::push_tree;
 use html_blocks::render::render;
 use markdown_blocks::configuration::ParseOptions;
+use markdown_blocks::event::Event;
 use markdown_blocks::message::Message;
 use markdown_blocks::parser::parse;
 use printing::print::print;
@@ -28,6 +37,25 @@ pub enum Task {
     Headings,
     /// What is wrong with labels.
     Labels,
+    /// The links.
+    Links,
+    /// The syntax tree.
+    Tree,
+}
+
+/// What is asked of a report.
+#[derive(Clone, Copy)]
+pub struct Wish<'a> {
+    pub task: Task,
+    pub format: Format,
+    /// Whether outline and events show inline content.
+    pub has_inlines: bool,
+    /// Whether headings are a table of links.
+    pub has_toc: bool,
+    /// Whether a label in brackets alone is a reference.
+    pub has_shortcuts: bool,
+    /// Labels that may be undefined.
+    pub ignored: &'a [&'a str],
 }
 
 /// How a report is written.
@@ -43,7 +71,7 @@ pub enum Format {
 #[derive(Drop)]
 pub struct Report {
     pub text: String,
-    /// How many things are wrong: 0 but where labels are looked at.
+    /// How many things are wrong: 0 but where labels or links are looked at.
     pub findings: usize,
 }
 
@@ -79,12 +107,32 @@ struct LabelsReport<'a> {
     findings: Vec<Finding>,
 }
 
-/// Reads the text of a file and reports of it, part by part but where all events are reported. An `Err` says that memory
-/// ran out.
+#[derive(Drop, Serialize)]
+struct LinksReport<'f, 'n> {
+    file: &'f str,
+    links: Vec<LinkRecord<'n>>,
+}
+
+#[derive(Drop, Serialize)]
+struct TocReport<'f, 'n> {
+    file: &'f str,
+    toc: Vec<Entry<'n>>,
+}
+
+#[derive(Drop, Serialize)]
+struct SpansReport<'f, 't, 'l, 'n> {
+    file: &'f str,
+    blocks: Vec<Block<'t>>,
+    definitions: &'l [String],
+    footnotes: &'l [String],
+    inlines: Vec<Span<'n>>,
+}
+
+/// Reads the text of a file and reports of it, part by part where no inline content is read and not all events are
+/// reported. An `Err` says that memory ran out.
 pub fn report_on(
     alloc: Global,
-    task: Task,
-    format: Format,
+    wish: Wish<'_>,
     file: &str,
     text: &str,
     options: &ParseOptions,
@@ -92,17 +140,58 @@ pub fn report_on(
     requires size { IsSmall text.now }
     requires built { IsWithoutMdx options.now }
 {
-    if task == Task::Labels {
-        return report_labels(alloc, format, file, text, options);
+    let format = wish.format;
+    match wish.task {
+        Task::Labels => report_labels(alloc, wish, file, text, options),
+        Task::Links => report_links(alloc, format, file, text, options),
+        _ => {
+            let text = report_text(alloc, wish, file, text, options)?;
+            Ok(Report { text, findings: 0 })
+        }
     }
-    let text = match (task, format) {
-        (Task::Outline, Format::Text) => outline_text(alloc, text, options)?,
-        (Task::Outline, Format::Json) => outline_json(alloc, file, text, options)?,
-        (Task::Events, _) => report_events(alloc, format, file, text, options)?,
-        (Task::Html, _) => report_html(alloc, format, file, text, options)?,
-        _ => report_headings(alloc, format, file, text, options)?,
-    };
-    Ok(Report { text, findings: 0 })
+}
+
+/// A report that finds nothing wrong.
+fn report_text(
+    alloc: Global,
+    wish: Wish<'_>,
+    file: &str,
+    text: &str,
+    options: &ParseOptions,
+) -> Result<String, Message>
+    requires size { IsSmall text.now }
+    requires built { IsWithoutMdx options.now }
+{
+    let format = wish.format;
+    match wish.task {
+        Task::Outline => report_outline(alloc, wish, file, text, options),
+        Task::Events => report_events(alloc, wish, file, text, options),
+        Task::Html => report_html(alloc, format, file, text, options),
+        Task::Tree => report_tree(alloc, format, file, text, options),
+        _ if wish.has_toc => report_toc(alloc, format, file, text, options),
+        _ => report_headings(alloc, format, file, text, options),
+    }
+}
+
+fn report_outline(
+    alloc: Global,
+    wish: Wish<'_>,
+    file: &str,
+    text: &str,
+    options: &ParseOptions,
+) -> Result<String, Message>
+    requires size { IsSmall text.now }
+    requires built { IsWithoutMdx options.now }
+{
+    let is_json = wish.format == Format::Json;
+    if wish.has_inlines {
+        return outline_inlines(alloc, is_json, file, text, options);
+    }
+    if is_json {
+        outline_json(alloc, file, text, options)
+    } else {
+        outline_text(alloc, text, options)
+    }
 }
 
 /// The JSON of a report, on one line.
@@ -125,12 +214,11 @@ fn outline_text(alloc: Global, text: &str, options: &ParseOptions) -> Result<Str
     Ok(lines.text)
 }
 
-fn outline_json(
+fn outline_blocks<'a>(
     alloc: Global,
-    file: &str,
-    text: &str,
-    options: &ParseOptions,
-) -> Result<String, Message>
+    text: &'a str,
+    options: &'a ParseOptions,
+) -> Result<OutlineBlocks<'a>, Message>
     requires size { IsSmall text.now }
     requires built { IsWithoutMdx options.now }
 {
@@ -141,6 +229,19 @@ fn outline_json(
         footnotes: Vec::new(alloc),
     };
     hand_out(alloc, text, options, &mut all)?;
+    Ok(all)
+}
+
+fn outline_json(
+    alloc: Global,
+    file: &str,
+    text: &str,
+    options: &ParseOptions,
+) -> Result<String, Message>
+    requires size { IsSmall text.now }
+    requires built { IsWithoutMdx options.now }
+{
+    let all = outline_blocks(alloc, text, options)?;
     json(
         alloc,
         &OutlineReport {
@@ -152,9 +253,10 @@ fn outline_json(
     )
 }
 
-fn report_events(
+/// The outline with what is in its blocks.
+fn outline_inlines(
     alloc: Global,
-    format: Format,
+    is_json: bool,
     file: &str,
     text: &str,
     options: &ParseOptions,
@@ -162,8 +264,96 @@ fn report_events(
     requires size { IsSmall text.now }
     requires built { IsWithoutMdx options.now }
 {
-    let (events, _state) = parse(alloc, text, options)?;
-    if format == Format::Text {
+    let nodes = read_nodes(alloc, text, options)?;
+    let spans = spans(alloc, &nodes)?;
+    if is_json {
+        spans_json(alloc, file, text, options, spans)
+    } else {
+        spans_text(alloc, text, options, &spans)
+    }
+}
+
+fn spans_text(
+    alloc: Global,
+    text: &str,
+    options: &ParseOptions,
+    spans: &[Span<'_>],
+) -> Result<String, Message>
+    requires size { IsSmall text.now }
+    requires built { IsWithoutMdx options.now }
+{
+    let mut lines = OutlineSpans {
+        alloc,
+        text: String::new(alloc),
+        spans,
+        blocks: 0,
+        shown: 0,
+    };
+    hand_out(alloc, text, options, &mut lines)?;
+    Ok(lines.text)
+}
+
+fn spans_json(
+    alloc: Global,
+    file: &str,
+    text: &str,
+    options: &ParseOptions,
+    inlines: Vec<Span<'_>>,
+) -> Result<String, Message>
+    requires size { IsSmall text.now }
+    requires built { IsWithoutMdx options.now }
+{
+    let all = outline_blocks(alloc, text, options)?;
+    json(
+        alloc,
+        &SpansReport {
+            file,
+            blocks: all.blocks,
+            definitions: &all.definitions,
+            footnotes: &all.footnotes,
+            inlines,
+        },
+    )
+}
+
+/// The syntax tree of a text.
+fn read_nodes(alloc: Global, text: &str, options: &ParseOptions) -> Result<Vec<Node>, Message>
+    requires size { IsSmall text.now }
+    requires built { IsWithoutMdx options.now }
+{
+    let (events, state) = parse_inlines(alloc, text, options)?;
+    nodes_of(alloc, &events, &state)
+}
+
+fn read_events(
+    alloc: Global,
+    has_inlines: bool,
+    text: &str,
+    options: &ParseOptions,
+) -> Result<Vec<Event>, Message>
+    requires size { IsSmall text.now }
+    requires built { IsWithoutMdx options.now }
+{
+    let (events, _state) = if has_inlines {
+        parse_inlines(alloc, text, options)?
+    } else {
+        parse(alloc, text, options)?
+    };
+    Ok(events)
+}
+
+fn report_events(
+    alloc: Global,
+    wish: Wish<'_>,
+    file: &str,
+    text: &str,
+    options: &ParseOptions,
+) -> Result<String, Message>
+    requires size { IsSmall text.now }
+    requires built { IsWithoutMdx options.now }
+{
+    let events = read_events(alloc, wish.has_inlines, text, options)?;
+    if wish.format == Format::Text {
         return print(alloc, &events);
     }
     let events = records(alloc, &events)?;
@@ -212,7 +402,54 @@ fn report_headings(
     Ok(lines)
 }
 
-fn report_labels(
+fn report_toc(
+    alloc: Global,
+    format: Format,
+    file: &str,
+    text: &str,
+    options: &ParseOptions,
+) -> Result<String, Message>
+    requires size { IsSmall text.now }
+    requires built { IsWithoutMdx options.now }
+{
+    let nodes = read_nodes(alloc, text, options)?;
+    let anchors = anchors(alloc, &nodes)?;
+    let toc = entries(alloc, &nodes, &anchors)?;
+    if format == Format::Json {
+        return json(alloc, &TocReport { file, toc });
+    }
+    let mut lines = String::new(alloc);
+    push_entries(&mut lines, &toc)?;
+    Ok(lines)
+}
+
+/// The tree of a text alone, on a line, or as JSON with the name of the file.
+fn report_tree(
+    alloc: Global,
+    format: Format,
+    file: &str,
+    text: &str,
+    options: &ParseOptions,
+) -> Result<String, Message>
+    requires size { IsSmall text.now }
+    requires built { IsWithoutMdx options.now }
+{
+    let nodes = read_nodes(alloc, text, options)?;
+    let mut tree = String::new(alloc);
+    if format == Format::Text {
+        push_tree(alloc, &mut tree, &nodes)?;
+        tree.push_str("\n")?;
+        return Ok(tree);
+    }
+    tree.push_str("{\"file\":")?;
+    tree.push_str(json(alloc, &file)?.as_str())?;
+    tree.push_str(",\"tree\":")?;
+    push_tree(alloc, &mut tree, &nodes)?;
+    tree.push_str("}")?;
+    Ok(tree)
+}
+
+fn report_links(
     alloc: Global,
     format: Format,
     file: &str,
@@ -222,23 +459,59 @@ fn report_labels(
     requires size { IsSmall text.now }
     requires built { IsWithoutMdx options.now }
 {
-    let mut labels = Labels::new(alloc);
-    hand_out(alloc, text, options, &mut labels)?;
-    let found = labels.findings()?;
+    let nodes = read_nodes(alloc, text, options)?;
+    let anchors = anchors(alloc, &nodes)?;
+    let links = links(alloc, &nodes, &anchors)?;
+    let findings = count_broken(&links);
+    let text = links_text(alloc, format, file, links)?;
+    Ok(Report { text, findings })
+}
+
+fn links_text(
+    alloc: Global,
+    format: Format,
+    file: &str,
+    links: Vec<LinkRecord<'_>>,
+) -> Result<String, Message> {
+    if format == Format::Json {
+        return json(alloc, &LinksReport { file, links });
+    }
+    let mut text = String::new(alloc);
+    push_links(&mut text, &links)?;
+    Ok(text)
+}
+
+fn report_labels(
+    alloc: Global,
+    wish: Wish<'_>,
+    file: &str,
+    text: &str,
+    options: &ParseOptions,
+) -> Result<Report, Message>
+    requires size { IsSmall text.now }
+    requires built { IsWithoutMdx options.now }
+{
+    let wanted = Wanted::new(alloc, wish.has_shortcuts, wish.ignored)?;
+    let (events, state) = parse_inlines(alloc, text, options)?;
+    let found = findings(alloc, &events, &state, &wanted)?;
     let count = found.len();
-    let text = match format {
-        Format::Text => {
-            let mut text = String::new(alloc);
-            push_findings(&mut text, file, &found)?;
-            text
-        }
-        Format::Json => {
-            let findings = found;
-            json(alloc, &LabelsReport { file, findings })?
-        }
-    };
+    let text = labels_text(alloc, wish.format, file, found)?;
     Ok(Report {
         text,
         findings: count,
     })
+}
+
+fn labels_text(
+    alloc: Global,
+    format: Format,
+    file: &str,
+    findings: Vec<Finding>,
+) -> Result<String, Message> {
+    if format == Format::Json {
+        return json(alloc, &LabelsReport { file, findings });
+    }
+    let mut text = String::new(alloc);
+    push_findings(&mut text, file, &findings)?;
+    Ok(text)
 }
