@@ -1,6 +1,7 @@
 // What a parse takes, in numbers that are the same on each machine.
 
 ghost use Rattle.markdown_blocks.specs.Parsed.{IsSmall, IsWithoutMdx};
+ghost use Rattle.md_program.specs.Sets as sets;
 
 use examples_layer::References;
 use markdown_blocks::event::Event;
@@ -41,7 +42,10 @@ fn read<'a>(
 }
 
 /// The options that a text is read with, where it has none of its own.
-fn options_of(text: &str, options: ParseOptions) -> ParseOptions {
+fn options_of(text: &str, options: ParseOptions) -> ParseOptions
+    requires { sets.IsWithoutMdx options }
+    ensures { sets.IsWithoutMdx result }
+{
     if text.starts_with(INLINES) {
         ParseOptions::GFM
     } else {
