@@ -4,46 +4,34 @@ use crate::page_rows::{
     BLOCKS, DANGEROUS, EMPHASIS, FOOTNOTES, GITHUB, IMAGES, LINKS, LISTS, OTHERS, SAFE, TABLES,
     TEXTS,
 };
-use markdown_blocks::configuration::ParseOptions;
 use markdown_blocks::message::Message;
 use markdown_blocks::parser::parse_with;
 use markdown_html::{HtmlOptions, LineEnding, html};
 use markdown_inlines::Inlines;
 use md_program::body::{Body, MOST};
+use md_program::set::{Set, options};
 use printing::blocks::Blocks;
 use std::alloc::Global;
 use std::process::Abort;
 use std::test::Fail;
 
-/// Which constructs are on.
-#[derive(Clone, Copy)]
-struct Set {
-    blocks: ParseOptions,
-    inlines: Inlines,
+/// The inline constructs of a set.
+fn inlines_of(set: Set) -> Inlines {
+    match set {
+        Set::CommonMark => Inlines::COMMONMARK,
+        Set::Gfm => Inlines::GFM,
+        Set::All | Set::Alerts => Inlines::ALL,
+    }
 }
-
-const COMMONMARK: Set = Set {
-    blocks: ParseOptions::COMMONMARK,
-    inlines: Inlines::COMMONMARK,
-};
-
-const GFM: Set = Set {
-    blocks: ParseOptions::GFM,
-    inlines: Inlines::GFM,
-};
-
-const ALERTS: Set = Set {
-    blocks: ParseOptions::ALERTS,
-    inlines: Inlines::ALL,
-};
 
 /// The HTML of a text.
 fn page(alloc: Global, text: &str, set: Set, asked: &HtmlOptions) -> Result<String, Message> {
     if text.len() > MOST {
         return Err(Message);
     }
-    let options = Blocks::built(set.blocks);
-    let (events, state) = parse_with(alloc, &set.inlines, text, &options)?;
+    let options = Blocks::built(options(set));
+    let inlines = inlines_of(set);
+    let (events, state) = parse_with(alloc, &inlines, text, &options)?;
     html(alloc, &events, &state, asked)
 }
 
@@ -64,37 +52,55 @@ fn check(
 
 #[test]
 fn blocks_are_written(rt: HostRuntime) -> Result<(), Message> {
-    check(&rt, rt.alloc(), COMMONMARK, &HtmlOptions::SAFE, &BLOCKS)
+    check(
+        &rt,
+        rt.alloc(),
+        Set::CommonMark,
+        &HtmlOptions::SAFE,
+        &BLOCKS,
+    )
 }
 
 #[test]
 fn lists_are_tight_or_loose(rt: HostRuntime) -> Result<(), Message> {
-    check(&rt, rt.alloc(), COMMONMARK, &HtmlOptions::SAFE, &LISTS)
+    check(&rt, rt.alloc(), Set::CommonMark, &HtmlOptions::SAFE, &LISTS)
 }
 
 #[test]
 fn texts_are_escaped_once(rt: HostRuntime) -> Result<(), Message> {
-    check(&rt, rt.alloc(), COMMONMARK, &HtmlOptions::SAFE, &TEXTS)
+    check(&rt, rt.alloc(), Set::CommonMark, &HtmlOptions::SAFE, &TEXTS)
 }
 
 #[test]
 fn emphasis_is_written(rt: HostRuntime) -> Result<(), Message> {
-    check(&rt, rt.alloc(), COMMONMARK, &HtmlOptions::SAFE, &EMPHASIS)
+    check(
+        &rt,
+        rt.alloc(),
+        Set::CommonMark,
+        &HtmlOptions::SAFE,
+        &EMPHASIS,
+    )
 }
 
 #[test]
 fn links_lead_somewhere(rt: HostRuntime) -> Result<(), Message> {
-    check(&rt, rt.alloc(), COMMONMARK, &HtmlOptions::SAFE, &LINKS)
+    check(&rt, rt.alloc(), Set::CommonMark, &HtmlOptions::SAFE, &LINKS)
 }
 
 #[test]
 fn images_have_plain_texts(rt: HostRuntime) -> Result<(), Message> {
-    check(&rt, rt.alloc(), COMMONMARK, &HtmlOptions::SAFE, &IMAGES)
+    check(
+        &rt,
+        rt.alloc(),
+        Set::CommonMark,
+        &HtmlOptions::SAFE,
+        &IMAGES,
+    )
 }
 
 #[test]
 fn nothing_dangerous_is_written(rt: HostRuntime) -> Result<(), Message> {
-    check(&rt, rt.alloc(), COMMONMARK, &HtmlOptions::SAFE, &SAFE)
+    check(&rt, rt.alloc(), Set::CommonMark, &HtmlOptions::SAFE, &SAFE)
 }
 
 #[test]
@@ -102,7 +108,7 @@ fn dangerous_things_may_be_allowed(rt: HostRuntime) -> Result<(), Message> {
     check(
         &rt,
         rt.alloc(),
-        COMMONMARK,
+        Set::CommonMark,
         &HtmlOptions::DANGEROUS,
         &DANGEROUS,
     )
@@ -110,22 +116,22 @@ fn dangerous_things_may_be_allowed(rt: HostRuntime) -> Result<(), Message> {
 
 #[test]
 fn tables_are_written(rt: HostRuntime) -> Result<(), Message> {
-    check(&rt, rt.alloc(), GFM, &HtmlOptions::SAFE, &TABLES)
+    check(&rt, rt.alloc(), Set::Gfm, &HtmlOptions::SAFE, &TABLES)
 }
 
 #[test]
 fn extensions_are_written(rt: HostRuntime) -> Result<(), Message> {
-    check(&rt, rt.alloc(), GFM, &HtmlOptions::SAFE, &GITHUB)
+    check(&rt, rt.alloc(), Set::Gfm, &HtmlOptions::SAFE, &GITHUB)
 }
 
 #[test]
 fn footnotes_are_a_section(rt: HostRuntime) -> Result<(), Message> {
-    check(&rt, rt.alloc(), GFM, &HtmlOptions::SAFE, &FOOTNOTES)
+    check(&rt, rt.alloc(), Set::Gfm, &HtmlOptions::SAFE, &FOOTNOTES)
 }
 
 #[test]
 fn the_others_are_written(rt: HostRuntime) -> Result<(), Message> {
-    check(&rt, rt.alloc(), ALERTS, &HtmlOptions::SAFE, &OTHERS)
+    check(&rt, rt.alloc(), Set::Alerts, &HtmlOptions::SAFE, &OTHERS)
 }
 
 /// Options of all kinds.
@@ -148,8 +154,8 @@ const CALLED: &str =
 #[test]
 fn options_are_taken(rt: HostRuntime) -> Result<(), Fail> {
     let alloc = rt.alloc();
-    assert!(rt; page(alloc, "# a", COMMONMARK, &ASKED)?.as_str() == "<h1>a</h1>\r\n");
-    assert!(rt; page(alloc, "[^a]\n\n[^a]: b", GFM, &ASKED)?.as_str() == CALLED);
+    assert!(rt; page(alloc, "# a", Set::CommonMark, &ASKED)?.as_str() == "<h1>a</h1>\r\n");
+    assert!(rt; page(alloc, "[^a]\n\n[^a]: b", Set::Gfm, &ASKED)?.as_str() == CALLED);
     Ok(())
 }
 
@@ -174,7 +180,7 @@ fn repeated(
 fn quotes_have_no_limit(rt: HostRuntime) -> Result<(), Fail> {
     let alloc = rt.alloc();
     let quotes = repeated(alloc, "", ">", 100_000, "a")?;
-    let found = page(alloc, quotes.as_str(), COMMONMARK, &HtmlOptions::SAFE)?;
+    let found = page(alloc, quotes.as_str(), Set::CommonMark, &HtmlOptions::SAFE)?;
     // `<p>a</p>`, and around it `<blockquote>` and `</blockquote>`, each with a line ending
     assert!(rt; found.len() == 9 + 100_000 * 27);
     Ok(())
@@ -185,7 +191,7 @@ fn images_have_no_limit(rt: HostRuntime) -> Result<(), Fail> {
     let alloc = rt.alloc();
     let ends = repeated(alloc, "a", "](b)", 10_000, "")?;
     let images = repeated(alloc, "", "![", 10_000, ends.as_str())?;
-    let found = page(alloc, images.as_str(), COMMONMARK, &HtmlOptions::SAFE)?;
+    let found = page(alloc, images.as_str(), Set::CommonMark, &HtmlOptions::SAFE)?;
     assert!(rt; found.as_str() == "<p><img src=\"b\" alt=\"a\" /></p>\n");
     Ok(())
 }
@@ -196,7 +202,7 @@ fn references_have_a_limit(rt: HostRuntime) -> Result<(), Fail> {
     let alloc = rt.alloc();
     let defined = repeated(alloc, "\n\n[a]: ", "b", 20_000, "")?;
     let text = repeated(alloc, "", "[a].", 1000, defined.as_str())?;
-    let found = page(alloc, text.as_str(), COMMONMARK, &HtmlOptions::SAFE)?;
+    let found = page(alloc, text.as_str(), Set::CommonMark, &HtmlOptions::SAFE)?;
     // `<p></p>` with a line ending; `<a href="..">a</a>.`; `a.`
     assert!(rt; found.len() == 8 + 5 * 20_017 + 995 * 2);
     Ok(())
@@ -209,7 +215,7 @@ fn empty_cells_have_a_limit(rt: HostRuntime) -> Result<(), Fail> {
     let head = repeated(alloc, "|", "a|", 1001, "\n|")?;
     let delimiters = repeated(alloc, head.as_str(), "-|", 1001, "\n")?;
     let text = repeated(alloc, delimiters.as_str(), "|b|\n", 1000, "")?;
-    let found = page(alloc, text.as_str(), GFM, &HtmlOptions::SAFE)?;
+    let found = page(alloc, text.as_str(), Set::Gfm, &HtmlOptions::SAFE)?;
     // the tags of the table, its head, its body and the row in its head; `<th>a</th>`; a row with `<td>b</td>`;
     // `<td></td>`; each with a line ending
     assert!(rt; found.len() == 62 + 1001 * 11 + 1000 * 22 + 100_000 * 10);
