@@ -5,8 +5,9 @@
 #
 # The symbols of a program are the functions that its compiler left out of line: each of a crate of the repository is
 # looked for in the sources by its path, as `md_events::names::is_block`, and refused where it has the mark. One that
-# is not found there is refused too, so that a mark is not missed because a path is spelled in another way. ALONE has
-# those that are known to be out of line, and a line of it that is no longer true is refused.
+# is not found there is refused too, so that a mark is not missed because a path is spelled in another way; closures and
+# derived functions, which no line of the sources names, have none. ALONE has those that are known to be out of line,
+# and a line of it that is no longer true is refused.
 set -euo pipefail
 cd "$(dirname "$0")/.."
 kit=$(dirname "$(rt doc)")
@@ -26,6 +27,9 @@ ALONE = {
 
 IMPL = re.compile(r"(?:unsafe )?impl(?:<[^{]*?>)? (.*?)(?: where .*)?\{?$")
 TYPE = re.compile(r"^(?:pub(?:\([a-z]+\))? )?(?:struct|enum) (\w+)", re.MULTILINE)
+DERIVED = re.compile(
+    r"^#\[derive\(([\w, ]*)\)\]\n(?:#\[.*\]\n)*(?:pub(?:\([a-z]+\))? )?(?:struct|enum) (\w+)", re.MULTILINE
+)
 TRAIT = re.compile(r"(?:pub(?:\([a-z]+\))? )?trait (\w+)")
 FUNCTION = re.compile(r"( *)(?:pub(?:\([a-z]+\))? )?(?:const )?(?:unsafe )?(?:extern \"C\" )?fn (\w+)")
 
@@ -70,31 +74,38 @@ def functions(modules, text, types):
 
 
 def read_marks():
-    """The functions of all crates, each with whether it is marked."""
+    """The functions of all crates, each with whether it is marked; and each type with a trait derived for it."""
     texts = {}
     for path in sorted(Path("crates").glob("*/src/**/*.rt")):
         inside = path.relative_to(f"crates/{path.parts[1]}/src").with_suffix("").parts
         modules = (path.parts[1], *(inside if inside[-1] not in ("lib", "main") else inside[:-1]))
         texts[modules] = path.read_text(encoding="utf-8")
     types = {(*modules, name) for modules, text in texts.items() for name in TYPE.findall(text)}
-    return {name: mark for modules, text in texts.items() for name, mark in functions(modules, text, types)}
+    derived = {
+        "::".join([*modules, name + trait])
+        for modules, text in texts.items()
+        for traits, name in DERIVED.findall(text)
+        for trait in traits.split(", ")
+    }
+    return {name: mark for modules, text in texts.items() for name, mark in functions(modules, text, types)}, derived
 
 
 def symbols(program):
-    """The functions that are out of line in a program, without their type parameters. A symbol with `++` is of an item of
-    another library, of which a crate has an instance."""
+    """The functions that are out of line in a program, without their type parameters. A symbol with `++` is of an item
+    of another library, of which a crate has an instance; one with `fn` in its path is of a closure."""
     words = ["llvm-nm", "--defined-only", "--format=just-symbols", program]
     ran = subprocess.run(words, executable=CLANG, capture_output=True, text=True, check=True)
-    return {re.sub(r"::<.*|\+.*|\{.*", "", it) for it in ran.stdout.split("\n") if "++" not in it}
+    return {re.sub(r"::<.*|\+.*|\{.*", "", it) for it in ran.stdout.split("\n") if "++" not in it and "::fn::" not in it}
 
 
 def main():
-    marks = read_marks()
+    marks, derived = read_marks()
     crates = {path.name for path in Path("crates").iterdir()}
     failed = False
     for name in NAMES:
         program = f"{FOLDER}/{name}" if FOLDER else f"crates/{name}/out/{name}"
         ours = {it for it in symbols(program) if it.split("::")[0] in crates and "::" in it}
+        ours = {it for it in ours if it.rpartition("::")[0] not in derived}
         known = {it for it, programs in ALONE.items() if name in programs}
         said = [f"is marked, and is out of line: {it}" for it in sorted(ours) if marks.get(it) and it not in known]
         said += [f"is not found in the sources: {it}" for it in sorted(ours - marks.keys())]
