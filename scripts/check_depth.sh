@@ -1,16 +1,18 @@
 #!/usr/bin/env bash
-# Containers and inline constructs in one another take no stack, whatever their number: built programs (`rt ci` or `rt run` builds them: `out`; where PROGRAMS
-# is set, they are in that folder) run with 256 KB of stack.
+# Containers and inline constructs in one another take no stack, whatever their number: built programs (`rt ci` or `rt
+# run` builds them: `out`; where PROGRAMS is set, they are in that folder) run with 256 KB of stack.
 #
-# - `test_bench levels` tries the parser on 100,000 markers of containers, of three kinds, the third of four containers, and the plain program
-#   on a quarter of each; the parser with the inline layer on 100,000 brackets on each side, on emphasis 50,000 deep and on 25,000 images in
-#   one another.
+# - `test_bench levels` tries the parser on 100,000 markers of containers, of three kinds, the third of four containers,
+#   and the plain program on a quarter of each; the parser with the inline layer on 100,000 brackets on each side, on
+#   emphasis 50,000 deep and on 25,000 images in one another.
 # - `blocks` prints the outline of a line of 1,000,000 `*`, of one of as many spaces, and of 100,000 empty lines.
-# - `plain_blocks` prints the outline of 2,000 containers in one another, on one line and on two, the second of which closes them. The
-#   outlines are written here.
-# - `plain_inlines` prints the inline content of 300 images in one another, and of emphasis 300 deep. The printed forms are written here.
-# - The same with requests for memory refused, every 61st in turn, alone and with all that follow (`scripts/refuse.c`): the program then
-#   ends with status 3, says so and prints nothing, so that what it holds by then is let go without stack too.
+# - `plain_blocks` prints the outline of 2,000 containers in one another, on one line and on two, the second of which
+#   closes them. The outlines are written here.
+# - `plain_inlines` prints the inline content of 300 images in one another, and of emphasis 300 deep. The printed forms
+#   are written here.
+# - The same with requests for memory refused, every 61st in turn, alone and with all that follow (`scripts/refuse.c`):
+#   the program then ends with status 3, says so and prints nothing, so that what it holds by then is let go without
+#   stack too.
 set -euo pipefail
 cd "$(dirname "$0")/.."
 work=$(mktemp -d)
