@@ -31,7 +31,10 @@ use Rattle.md_engine.specs.declared.tokenizer.held_leaf.HeldLeaf.TheVariants as 
 use Rattle.md_engine.specs.Meaning.{Cell, Feed, Follows}
 use Rattle.md_engine.specs.Run.{Calls, IsEnd, Leaves, Runs, leads_back, next_of, plain, reading}
 use Rattle.md_engine.specs.Run.Runs.{Stays, ThenCalls, ThenLeaves}
+use Rattle.md_engine.specs.Sees.{Sees}
 use Rattle.md_engine.specs.World.{Flags, Setting, World, closed, container_of, looks}
+use Rattle.md_engine.proofs.Keeps.{runs-setting}
+use Rattle.md_engine.proofs.StepOf.{sees}
 use Rattle.md_containers.specs.Item as ItemStates
 use Rattle.md_containers.specs.Quote as QuoteStates
 use Rattle.md_events.specs.Look.{looks_after, may_with}
@@ -58,8 +61,9 @@ use Rattle.markdown_blocks.proofs.ContainersTried.{further-tried, opener-tried}
 use Rattle.markdown_blocks.proofs.LeafCalls.{Begins, IsFreeFrame, LeadsFree, StaysFree, either, is_free, tries, turns}
 use Rattle.markdown_blocks.proofs.LeafTried.{AtBlank, AtLeaf, AtText, FlowLeads, Follows_on, HasMet, IsAskedAt, IsFlow}
 use Rattle.markdown_blocks.proofs.LeafTried.{Tried, Tries_leaf, frame_of, is_flow}
-use Rattle.markdown_blocks.proofs.LineMet.{Meets, OnLine, between-met, flow-led, is_between, left-flags, next-line}
-use Rattle.markdown_blocks.proofs.LineMet.{run-on, still_after}
+use Rattle.markdown_blocks.proofs.LeafMet.{flow-led}
+use Rattle.markdown_blocks.proofs.LineMet.{Meets, OnLine, between-met, is_between, left-flags, next-line, run-on}
+use Rattle.markdown_blocks.proofs.LineMet.{still_after}
 use Rattle.markdown_blocks.proofs.LinesFed.{line-fed, none-or-ending}
 
 -- What is known where such a state is called.
@@ -484,7 +488,7 @@ white-name (Retry m) name e is = absurd is
 
 -- Any call that takes no ending.
 module _ (under : Setting) (feed : Feed) (still : HeldLeaf) (t : State) (v : World) (t' : State) (v' : World)
-    (on : OnLine under feed still t v) (c : Calls FlowStep true t v t' v') where
+    (on : OnLine under feed still t v) (seen : Sees feed (reading v)) (c : Calls FlowStep true t v t' v') where
   by : (name : StateName) → c.name ≡ name → PlacedAfter still (flow_transition name (reading v)) → Placed still t' v'
   by name e is =
       subst₂ (λ (x : State) (w : World). Placed still x w) (sym c.step.to_is) (sym c.step.new_is)
@@ -596,7 +600,7 @@ module _ (under : Setting) (feed : Feed) (still : HeldLeaf) (t : State) (v : Wor
       flow tries =
           by c.name refl
           (flow-placed under.options feed still (reading v) (flow_transition c.name (reading v)) free
-          (flow-led under feed still t v t' v' on c tries))
+          (flow-led under feed still t v t' v' on seen c tries))
 
       document-placed : (d : DocumentState) → c.name ≡ s.Document d → is_asking d ≡ false → Placed still t' v'
       document-placed d e other =
@@ -723,7 +727,11 @@ placed-on options bytes p small feed follows to new (ThenCalls t v t' v' run c) 
         let same : count ≡ feeds c.name (looks v) + count = omega (arith, none) in
         subst P same
         (placed-calls (text_setting bytes options p) feed (still_after options bytes p count) t v t' v'
-        (run-on options bytes p small feed follows t v run) c placed)
+        (run-on options bytes p small feed follows t v run)
+        (sees feed v true
+        (subst (λ (x : Setting). Follows feed x true)
+        (sym (runs-setting FlowStep true line_begins (flow_begins bytes options p) t v run)) follows)
+        c.may) c placed)
     go (inr ending) placed =
         let one : feeds c.name (looks v) ≡ 1 =
         ap (λ (m : StateName). feeds m (looks v)) ending.0

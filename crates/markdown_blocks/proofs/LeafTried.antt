@@ -23,10 +23,13 @@ use Rattle.md_engine.specs.declared.tokenizer.held_leaf.HeldLeaf.TheVariants as 
 use Rattle.md_engine.specs.Meaning.{Accepts, Cell, Fails, Feed, Here, Outcome, Refuses, here, whole_outcome}
 use Rattle.md_engine.specs.Run.{plain}
 use Rattle.md_engine.specs.Scheme.{valid}
+use Rattle.md_engine.specs.Sees.{Sees, ahead}
 use Rattle.md_engine.specs.World.{Flags, Setting, World, closed}
 use Rattle.md_events.specs.Ahead.{from_ending, line_bytes, line_end}
+use Rattle.md_events.specs.Look.{first_seen}
 use Rattle.md_events.specs.Spaces.{IsRest, any_size}
 use Rattle.md_events.specs.Transition.{Transition}
+use Rattle.md_flow.proofs.LineRule.Refused.{something-is}
 use Rattle.md_flow.specs.LineRule.{IsAsked, first_state, is_shared}
 use Rattle.md_leaves.specs.BlankRule.{blank_at, blank_events}
 use Rattle.md_meaning.specs.State.{Leaf, NoLeaf, OpenCode, OpenFence, OpenHtml, OpenParagraph, OpenTable}
@@ -35,7 +38,7 @@ use Rattle.md_registry.proofs.Registry.{insider-asked, insider-none, laws, leaf-
 use Rattle.md_registry.specs.Flow.{blank_line_code, flow_end_code, inside_code, leaf_end, leaf_front, leaf_transition}
 use Rattle.md_registry.specs.Flow.{row_transition, start_by, start_code, trial_code}
 use Rattle.md_registry.specs.FlowRule.{feeds}
-use Rattle.md_registry.specs.LineFlags.{kept_containers}
+use Rattle.md_registry.specs.LineFlags.{kept_containers, nothing_is_here}
 use Rattle.md_registry.specs.Registry.{asked_first, front_of, leaf, next_of, row, tried_at}
 use Rattle.md_registry.specs.States.{flow_table_scheme, flow_transition}
 use Rattle.proof_frame.specs.HeldLeaf.{has_lines, kind_of_leaf, lazy_of, met_by}
@@ -90,16 +93,14 @@ is_front (s.Flow flow.Start) = true
 is_front (s.Document document.FlowInside) = true
 is_front name = false
 
--- The leaf that is asked first has refused the line of these cells.
-pub record HasRefused (options : ParseOptions) (cells : List Cell) (on : HeldLeaf) : Type 0 where
-  pub name : LeafName
-  pub asked : asked_first on ≡ Some name
-  pub refused : (leaf name).takes options on cells ≡ false
+-- The leaf that is asked first, if one is, does not take the line of these cells.
+abbrev pub IsRefused : ParseOptions → List Cell → HeldLeaf → Type 0
+IsRefused options cells on = (l : LeafName) → asked_first on ≡ Some l → (leaf l).takes options on cells ≡ false
 
--- There the line is not known to be blank; and where all are tried, none is asked first, or it was and has refused.
+-- There no line is taken to be blank but a blank one; and where all are tried, that leaf has refused the line.
 abbrev pub FrontAt : ParseOptions → List Cell → StateName → Flags → Type 0
 FrontAt options cells (s.Flow flow.Start) g =
-    ((g.blank ≡ false) × (asked_first g.leaf ≡ None)) ⊎ HasRefused options cells g.leaf
+    (is_blank (line_bytes cells) ≡ false → g.blank ≡ false) × IsRefused options cells g.leaf
 FrontAt options cells (s.Document document.FlowInside) g = g.blank ≡ false
 FrontAt options cells name g = Unit {0}
 
@@ -120,7 +121,7 @@ pub front-met : (options : ParseOptions) (cells : List Cell) (g : Flags) → g.b
 front-met options cells g blank = go (asked_first g.leaf) refl
   where
     go : (o : Option LeafName) → asked_first g.leaf ≡ o → FrontAt options cells (leaf_front (is_some o)) g
-    go None e = inl (blank, e)
+    go None e = (λ some. blank, λ l asked. let bad = sym e ∙ asked in cc)
     go (Some l) e = blank
 
 -- The line has met this, until a leaf was taken.
@@ -304,6 +305,14 @@ tried-after under feed w start nok still rest few (AtText is none) =
 
 -- Calls.
 
+-- a state sees the byte of the first cell
+pub first-seen : (feed : Feed) (w : World) → Sees feed w → w.current ≡ first_seen (feed w.point)
+first-seen feed w sees = go w.current sees.next
+  where
+    go : (o : Option ℕ) → feed w.point ≡ ahead feed w o → o ≡ first_seen (feed w.point)
+    go None next = sym (ap first_seen next)
+    go (Some b) next = sym (ap first_seen next)
+
 abbrev pub frame_of : World → StateName → StateName → Frame
 frame_of w ok nok = record { ok = Next ok; nok = Next nok; is_check = false; events_len = length w.events; point = w.point }
 
@@ -365,12 +374,23 @@ module _ (options : ParseOptions) (feed : Feed) (still : HeldLeaf) where
       let tried = is l refl in leaf-leads w w l (s.Flow (next_of l)) _ refl refl refl tried.next tried met
 
   inside-leads : (w : World) (o : Option LeafName) → asked_first w.flags.leaf ≡ o → HasMet w.flags.leaf still →
-      w.flags.blank ≡ false → FlowLeads options feed still w (inside_code w o)
-  inside-leads w None e met blank = Follows_on refl refl (inr (met, inl (blank, e)))
-  inside-leads w (Some l) e met blank =
+      w.flags.blank ≡ false → w.current ≡ first_seen (feed w.point) → FlowLeads options feed still w (inside_code w o)
+  inside-leads w None e met blank seen =
+      Follows_on refl refl (inr (met, (λ some. blank, λ l asked. let bad = sym e ∙ asked in cc)))
+  inside-leads w (Some l) e met blank seen =
       trial w _ (leaf l).start _ _ true refl refl (leaf-low l) refl refl refl met (λ no. cc)
       (AtLeaf l refl (insider-asked w.flags.leaf l e) (asked-at l w.flags.leaf e) met
-      (λ no. inr (record { name = l; asked = e; refused = no })))
+      (λ no. (something, λ k asked. same k (sym e ∙ asked) no)))
+    where
+      something : is_blank (line_bytes (feed w.point)) ≡ false → nothing_is_here w.current w.point ≡ false
+      something some =
+          ap (λ (o : Option ℕ). nothing_is_here o w.point) seen ∙ something-is (feed w.point) w.point some
+
+      same : (k : LeafName) → Some l ≡ Some k → (leaf l).takes options w.flags.leaf (feed w.point) ≡ false →
+          (leaf k).takes options w.flags.leaf (feed w.point) ≡ false
+      same k one refused =
+          let name : k ≡ l = cc in
+          ap (λ (m : LeafName). (leaf m).takes options w.flags.leaf (feed w.point)) name ∙ refused
 
   own-leads : (w : World) (state : FlowState) →
       (is_past (s.Flow state) ≡ true) ⊎ HasMetAt options (feed w.point) (s.Flow state) w.flags still →
@@ -415,16 +435,17 @@ module _ (options : ParseOptions) (feed : Feed) (still : HeldLeaf) where
           by same = Follows_on tt same (inl tt)
 
   pub flow-leads : (name : StateName) (w : World) → is_flow name ≡ true → feeds name w.current ≡ 0 →
+      w.current ≡ first_seen (feed w.point) →
       (is_past name ≡ true) ⊎ HasMetAt options (feed w.point) name w.flags still →
       FlowLeads options feed still w (flow_transition name w)
-  flow-leads (s.Flow state) w is none met = own-leads w state met
-  flow-leads (s.Document document.FlowInside) w is none met =
+  flow-leads (s.Flow state) w is none seen met = own-leads w state met
+  flow-leads (s.Document document.FlowInside) w is none seen met =
       let at = met-before options (feed w.point) (s.Document document.FlowInside) w.flags still refl met in
-      inside-leads w (asked_first w.flags.leaf) refl at.0 at.1
-  flow-leads (s.Document document.FlowEnd) w is none met =
+      inside-leads w (asked_first w.flags.leaf) refl at.0 at.1 seen
+  flow-leads (s.Document document.FlowEnd) w is none seen met =
       end-leads w (closed w (kept_containers w.flags) w.flags.line_end) w.current refl none
-  flow-leads (s.Document state) w is none met = cc
-  flow-leads name w is none met = cc
+  flow-leads (s.Document state) w is none seen met = cc
+  flow-leads name w is none seen met = cc
 
 -- the tokenizer is at rest at each of them
 pub flow-rest : (name : StateName) (v : World) → is_flow name ≡ true → valid flow_table_scheme v (Next name) →

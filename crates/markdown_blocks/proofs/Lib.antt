@@ -4,6 +4,7 @@ pub mod LinesFed
 pub mod Attempts
 pub mod Levels
 pub mod FlowTries
+pub mod LeafMet
 pub mod LeafTried
 pub mod LineMet
 pub mod ContainersTried

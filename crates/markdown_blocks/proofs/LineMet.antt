@@ -17,7 +17,6 @@ use Rattle.md_engine.specs.declared.state.Name.{Name as StateName}
 use Rattle.md_engine.specs.declared.state.Name.TheVariants as s
 use Rattle.md_engine.specs.declared.state.document.State.{State as DocumentState}
 use Rattle.md_engine.specs.declared.state.document.State.TheVariants as document
-use Rattle.md_engine.specs.declared.state.flow.State.TheVariants as flow
 use Rattle.md_engine.specs.declared.state.State.{State}
 use Rattle.md_engine.specs.declared.state.State.TheVariants.{Error, Ok, Nok, Next, Retry}
 use Rattle.md_engine.specs.declared.tokenizer.Frame.{Frame}
@@ -33,6 +32,7 @@ use Rattle.md_engine.specs.Run.Runs.{Stays, ThenCalls, ThenLeaves}
 use Rattle.md_engine.specs.Scheme.{state_level, valid}
 use Rattle.md_engine.specs.World.{Flags, Setting, World, closed, container_of, looks}
 use Rattle.md_engine.proofs.Keeps.{runs-setting}
+use Rattle.md_engine.proofs.StepOf.{sees}
 use Rattle.md_containers.specs.Interrupts.{interrupts}
 use Rattle.md_events.specs.Look.{looks_after, may_with}
 use Rattle.md_events.specs.Spaces.{IsRest, any_size, ends_line}
@@ -40,7 +40,6 @@ use Rattle.md_events.specs.Transition.{Transition}
 use Rattle.md_meaning.specs.State.{Container}
 use Rattle.md_registry.proofs.Registry.{container-laws, container-states}
 use Rattle.md_registry.proofs.RegistryContainers.{further-is, proceeds-same}
-use Rattle.md_flow.specs.LineRule.{first_state}
 use Rattle.md_registry.specs.Flow.{existing_before_code, flow_end_code, following_all, leaf_front, trial_code}
 use Rattle.md_registry.specs.FlowRule.{feeds}
 use Rattle.md_registry.specs.LineFlags.{asking, begun_line, kept_containers, next_container, was_continued}
@@ -49,17 +48,16 @@ use Rattle.md_registry.specs.Registry.{may_continue, next_opener, opener_front, 
 use Rattle.md_registry.specs.Registry.{opens_with, proceeds_at}
 use Rattle.md_registry.specs.States.{FlowStep, flow_table_scheme, flow_transition}
 use Rattle.proof_frame.specs.HeldLeaf.{met_by}
-use Rattle.proof_frame.specs.LeafName.{LeafName}
 use Rattle.proof_frame.specs.Passed.{Passed, passed_by, passed_here}
 use Rattle.proof_rows.proofs.FlowHeld.{IsNext, open-length, open-next}
 use Rattle.proof_rows.specs.TextRows.{text_rows, text_setting}
 use Rattle.proof_rows.specs.Valid.{AreOpen}
-use Rattle.markdown_blocks.specs.Fed.{fed, flow_begins, line_begins, tries_leaf}
+use Rattle.markdown_blocks.specs.Fed.{fed, flow_begins, line_begins}
 use Rattle.markdown_blocks.proofs.Attempts.{not-ended}
 use Rattle.markdown_blocks.proofs.FlowTries.{Continues, Ended, Tries, TriesLeft, called-low, tries-calls, tries-leaves}
-use Rattle.markdown_blocks.proofs.LeafTried.{FlowLeads, Follows_on, HasMet, HasMetAt, IsFlow, IsPast, IsTriedAt}
-use Rattle.markdown_blocks.proofs.LeafTried.{MeetsAfter, MeetsAt, Tries_leaf, called-flow, flow-leads, flow-rest}
-use Rattle.markdown_blocks.proofs.LeafTried.{frame_of, front-met, is_flow, is_past, leads-tried, met-named, tried-after}
+use Rattle.markdown_blocks.proofs.LeafTried.{FlowLeads, Follows_on, HasMet, IsFlow, IsPast, MeetsAfter, MeetsAt}
+use Rattle.markdown_blocks.proofs.LeafTried.{Tries_leaf, called-flow, first-seen, flow-leads, flow-rest, frame_of}
+use Rattle.markdown_blocks.proofs.LeafTried.{front-met, is_flow, met-named, tried-after}
 use Rattle.markdown_blocks.proofs.LinesFed.{LineFed, leaf_after, line-fed, line_behaves, line_stop, none-or-ending}
 use Rattle.markdown_blocks.proofs.LinesFed.{open_after, text-within}
 
@@ -415,6 +413,7 @@ line-calls under feed still t v t' v' follows kept at on c none = go on
         (flow-call under feed still v frames (flow-rest c.name v flow (subst Q c.names at)) few
         (flow_transition c.name (reading v))
         (flow-leads under.options feed still c.name (reading v) flow none
+        (first-seen feed (reading v) (sees feed v true (subst F (sym kept) follows) c.may))
         (met-named under.options (feed v.point) t c.name v.flags still c.names meets)))
 
 -- Ends of attempts.
@@ -722,78 +721,3 @@ between-met under feed still t v on d may to = go on
     go (IsOpening a) = absurd (high a.tries.low)
     go (IsInLeaf a) = absurd (high a.tries.low)
     go (InFlow is frames meets) = absurd (between-flow d may (called-flow t (s.Document d) to is))
-
--- Where a leaf is tried.
-
--- all states that try one are of flow, take no ending, and are higher than what they try
-pub tries-flow : (name : StateName) → tries_leaf name ≡ true → is_flow name ≡ true
-tries-flow (s.Flow state) e = refl
-tries-flow (s.Document document.FlowInside) e = refl
-tries-flow (s.Document state) e = cc
-tries-flow name e = cc
-
-pub tries-none : (name : StateName) (o : Option ℕ) → tries_leaf name ≡ true → feeds name o ≡ 0
-tries-none name o e = go (none-or-ending name o)
-  where
-    go : (feeds name o ≡ 0) ⊎ ((name ≡ s.Document document.FlowEnd) × (o ≡ Some 10)) → feeds name o ≡ 0
-    go (inl none) = none
-    go (inr ending) = let bad : false ≡ true = ap tries_leaf (sym ending.0) ∙ e in cc
-
-tries-high : (name : StateName) → tries_leaf name ≡ true → flow_table_scheme.level name ≤ 2 → ⊥
-tries-high (s.Flow flow.Start) e low = absurd (omega (arith, low))
-tries-high (s.Flow state) e low = absurd (omega (arith, low))
-tries-high (s.Document document.FlowInside) e low = absurd (omega (arith, low))
-tries-high (s.Document state) e low = cc
-tries-high name e low = cc
-
-between-other : (d : DocumentState) → is_between d ≡ true → tries_leaf (s.Document d) ≡ true → ⊥
-between-other document.ContainersAfter is e = cc
-between-other document.ContainerNewBefore is e = cc
-between-other document.ContainerNewBeforeNotBlockQuote is e = cc
-between-other document.ContainerNewBeforeNotList is e = cc
-between-other d is e = cc
-
--- what the line has met there
-pub met-there : (under : Setting) (feed : Feed) (still : HeldLeaf) (t : State) (v : World) → OnLine under feed still t v →
-    (name : StateName) → plain t ≡ Next name → tries_leaf name ≡ true →
-    (is_past name ≡ true) ⊎ HasMetAt under.options (feed v.point) name v.flags still
-met-there under feed still t v on name to tries = go on
-  where
-    Met : Type 0
-    Met = (is_past name ≡ true) ⊎ HasMetAt under.options (feed v.point) name v.flags still
-
-    P : StateName → Type 0
-    P m = tries_leaf m ≡ true
-
-    -- no other state is called here
-    other : (d : DocumentState) → plain t ≡ Next (s.Document d) → (tries_leaf (s.Document d) ≡ true → ⊥) → Met
-    other d named not = let same : name ≡ s.Document d = let e = to in cc in absurd (not (subst P same tries))
-
-    low : state_level flow_table_scheme t ≤ 2 → Met
-    low le = absurd (tries-high name tries (called-low t name to le))
-
-    go : OnLine under feed still t v → Met
-    go (Asks done cs named frames are continued keeps) = other document.ContainerExistingBefore named (λ e. cc)
-    go (HasAsked done cs named frames are continued keeps) = other document.ContainerExistingAfter named (λ e. cc)
-    go (Between d named is frames meets) = other d named (between-other d is)
-    go (HasOpened named frames blank) = other document.ContainerNewAfter named (λ e. cc)
-    go (IsAsking a) = low a.tries.low
-    go (IsOpening a) = low a.tries.low
-    go (IsInLeaf a) = low a.tries.low
-    go (InFlow is frames meets) = met-named under.options (feed v.point) t name v.flags still to meets
-
--- and what a call leads to
-pub flow-led : (under : Setting) (feed : Feed) (still : HeldLeaf) (t : State) (v : World) (t' : State) (v' : World) →
-    OnLine under feed still t v → (c : Calls FlowStep true t v t' v') → tries_leaf c.name ≡ true →
-    FlowLeads under.options feed still (reading v) (flow_transition c.name (reading v))
-flow-led under feed still t v t' v' on c tries =
-    flow-leads under.options feed still c.name (reading v) (tries-flow c.name tries)
-    (tries-none c.name (looks v) tries) (met-there under feed still t v on c.name c.names tries)
-
-pub leaf-tried : (under : Setting) (feed : Feed) (still : HeldLeaf) (t : State) (v : World) (t' : State) (v' : World) →
-    OnLine under feed still t v → (c : Calls FlowStep true t v t' v') → tries_leaf c.name ≡ true → (l : LeafName) →
-    t' ≡ Retry (first_state l) → IsTriedAt l (reading v) v' still
-leaf-tried under feed still t v t' v' on c tries l to =
-    subst (λ (w : World). IsTriedAt l (reading v) w still) (sym c.step.new_is)
-    (leads-tried under.options feed still (reading v) (flow_transition c.name (reading v)) l
-    (flow-led under feed still t v t' v' on c tries) (sym c.step.to_is ∙ to))

@@ -15,11 +15,14 @@ use Rattle.md_engine.specs.declared.state.flow.State.TheVariants as flow
 use Rattle.md_engine.specs.declared.state.State.{State}
 use Rattle.md_engine.specs.declared.state.State.TheVariants.{Next, Ok, Retry}
 use Rattle.md_engine.specs.declared.tokenizer.container.name.ContainerKind.{ContainerKind}
+use Rattle.md_engine.specs.Meaning.{Follows}
 use Rattle.md_engine.specs.Run.{Calls, Runs, plain, reading as seeing}
 use Rattle.md_engine.specs.Scheme.{valid}
+use Rattle.md_engine.specs.Sees.{Sees}
 use Rattle.md_engine.specs.TextFeed.{text_feed}
 use Rattle.md_engine.specs.World.{Flags, Setting, World}
 use Rattle.md_engine.proofs.Keeps.{runs-setting}
+use Rattle.md_engine.proofs.StepOf.{sees}
 use Rattle.std.proofs.lemmas.List.{length-map}
 use Rattle.md_meaning.specs.Preamble.{rest_at}
 use Rattle.md_meaning.specs.Rest.{Rest}
@@ -34,8 +37,8 @@ use Rattle.proof_frame.specs.Change.{open_following}
 use Rattle.proof_frame.specs.Closed.{close_containers}
 use Rattle.proof_frame.specs.HeldLeaf.{kind_of_leaf, met_by}
 use Rattle.proof_frame.specs.LeafName.{LeafName}
-use Rattle.markdown_blocks.specs.Fed.{AfterLines, FlowRan, IsAtRest, IsFrontMet, IsFrontRefused, IsFurtherMet}
-use Rattle.markdown_blocks.specs.Fed.{IsLeafMet, IsLineMet, IsOpenerMet}
+use Rattle.markdown_blocks.specs.Fed.{AfterLines, FlowRan, IsAtRest, IsFrontMet, IsFurtherMet, IsLeafMet, IsLineMet}
+use Rattle.markdown_blocks.specs.Fed.{IsOpenerMet}
 use Rattle.markdown_blocks.specs.Fed.{before_opener, fed, flow_begins, last_leaves, line_begins, path_after, rests_from}
 use Rattle.markdown_blocks.specs.Fed.{tries_leaf}
 use Rattle.proof_rows.specs.Fronted.{rest_from}
@@ -50,8 +53,8 @@ use Rattle.markdown_blocks.proofs.ContainersTried.{further-tried, opener-rest, o
 use Rattle.markdown_blocks.proofs.FirstCalls.{IsCalledAt, placed-called, placed-on}
 use Rattle.markdown_blocks.proofs.FrontMet.{IsStill, asked-front, first-rest, further-rest, opens-rest, tried-front}
 use Rattle.markdown_blocks.proofs.LeafTried.{HasMet, IsAskedAt, IsTriedAt, asked-leaf, flow-rest, met-before}
-use Rattle.markdown_blocks.proofs.LineMet.{Meets, OnLine, between-met, leaf-tried, met-there, run-on, still_after}
-use Rattle.markdown_blocks.proofs.LineMet.{tries-flow}
+use Rattle.markdown_blocks.proofs.LeafMet.{leaf-tried, met-there, tries-flow}
+use Rattle.markdown_blocks.proofs.LineMet.{Meets, OnLine, between-met, run-on, still_after}
 use Rattle.markdown_blocks.proofs.LinesFed.{LineFed, leaf_after, line-fed, lines-fed, open_after, text-follows_it}
 use Rattle.markdown_blocks.proofs.LinesFed.{text-within}
 use Rattle.proof_rows.proofs.StepAfter.{containers-step, plain-step}
@@ -205,6 +208,12 @@ module _ (bytes : List ℕ) (options : ParseOptions) (p : Point) (small : length
   kept : v.setting ≡ under
   kept = runs-setting FlowStep true line_begins (flow_begins bytes options p) t v before
 
+  seen : Sees (text_feed under) (seeing v)
+  seen =
+      sees (text_feed under) v true
+      (subst (λ (x : Setting). Follows (text_feed under) x true) (sym kept) (text-follows_it bytes options p small))
+      call.may
+
   is-whole : v.setting.limit ≡ length v.setting.bytes
   is-whole = ap (λ (x : Setting). x.limit) kept ∙ sym (ap (λ (x : Setting). length x.bytes) kept)
 
@@ -233,22 +242,20 @@ module _ (bytes : List ℕ) (options : ParseOptions) (p : Point) (small : length
       go (inl leaf, blank) = record {
         rest = at.0.0;
         whole = is-whole;
-        blank = blank;
         all = not (nat_lt v.flags.continued (length v.flags.containers));
         open_leaf = (spot (path_after options bytes p count)).leaf;
         is = inl refl;
         built = is.built;
-        holds = (leaf ∙ sym is.same, refl);
+        holds = λ r. (leaf ∙ sym is.same, refl, blank);
       }
       go (inr none, blank) = record {
         rest = at.0.0;
         whole = is-whole;
-        blank = blank;
         all = not (nat_lt v.flags.continued (length v.flags.containers));
         open_leaf = NoLeaf;
         is = inr refl;
         built = tt;
-        holds = (none, refl);
+        holds = λ r. (none, refl, blank);
       }
 
   is-it : IsWithoutMdx options → p.index ≤ length bytes → p.vs ≡ 0 → 1 ≤ p.column → IsStill options bytes p count
@@ -291,7 +298,7 @@ module _ (bytes : List ℕ) (options : ParseOptions) (p : Point) (small : length
       tried.asked
     where
       tried : IsTriedAt l (seeing v) v' (still_after options bytes p count)
-      tried = leaf-tried under (text_feed under) (still_after options bytes p count) t v t' v' on-line call tries l to
+      tried = leaf-tried under (text_feed under) (still_after options bytes p count) t v t' v' on-line seen call tries l to
 
   -- where a container is tried
   openers-met : (k : ContainerKind) → call.name ≡ before_opener k → t' ≡ Retry (opener_state k) → IsOpenerMet k v'
@@ -370,14 +377,15 @@ module _ (bytes : List ℕ) (options : ParseOptions) (p : Point) (small : length
 
   -- and where all are tried
   tried-met : IsWithoutMdx options → p.index ≤ length bytes → p.vs ≡ 0 → 1 ≤ p.column → call.name ≡ s.Flow flow.Start →
-      IsFrontMet bytes options p count v (IsMet v) ⊎ IsFrontRefused bytes options p count v
+      IsFrontMet bytes options p count v (IsMet v)
   tried-met built index whole column name =
       let at = met-before under.options (text_feed under v.point) (s.Flow flow.Start) v.flags
       (still_after options bytes p count) refl
       (met-there under (text_feed under) (still_after options bytes p count) t v on-line (s.Flow flow.Start)
       (named (s.Flow flow.Start) name) refl) in
       tried-front bytes options p count (is-it built index whole column) v
-      (resting (flow-rest (s.Flow flow.Start) v refl (valid-at (s.Flow flow.Start) name))) at.0 at.1
+      (resting (flow-rest (s.Flow flow.Start) v refl (valid-at (s.Flow flow.Start) name)))
+      (ap (λ (x : Setting). x.options) kept) at.0 at.1
 
   -- where the first state of a line of text is called
   texts-begin : call.name ≡ s.Content content.ChunkStart → IsRest v.scratch × (v.setting.limit ≡ length v.setting.bytes)

@@ -1,7 +1,6 @@
 -- What is between two lines while flow reads a text: whenever a line has been fed, what the tokenizer holds represents
 -- what is open by the line definition.
 use Rattle.std.specs.Prelude.{◌≡◌, ◌⊎◌, ℕ, suc, ◌+◌, ◌<◌, ◌≤◌, Bool, true, false, List, [], ◌∷◌, length, map, take, drop}
-use Rattle.std.specs.Prelude.{None}
 use Rattle.md_engine.specs.declared.configuration.ParseOptions.{ParseOptions}
 use Rattle.md_engine.specs.declared.event.Point.{Point}
 use Rattle.md_engine.specs.declared.state.Name.{Name as StateName}
@@ -24,8 +23,7 @@ use Rattle.md_meaning.specs.Rest.{Rest}
 use Rattle.md_events.specs.Events.Spelled.{Reading, read, unread}
 use Rattle.md_events.specs.Spaces.{IsRest}
 use Rattle.md_flow.specs.LineRule.{IsAsked, IsHeldAs, IsMet, IsMetFirst, IsNext, IsOpen, first_state, further_state}
-use Rattle.md_flow.specs.LineRule.{is_asked_first, opener_state}
-use Rattle.md_meaning.specs.Leaves.{is_continued}
+use Rattle.md_flow.specs.LineRule.{opener_state}
 use Rattle.md_meaning.specs.State.{At, Container, Leaf, NoLeaf, Path, spot}
 use Rattle.md_meaning.specs.Step.{spot_of, steps}
 use Rattle.md_meaning.specs.Texts.{split_lines}
@@ -106,12 +104,11 @@ line_begins = Next (s.Document document.ContainerExistingBefore)
 pub record IsLineMet (bytes : List ℕ) (options : ParseOptions) (p : Point) (n : ℕ) (w : World) : Type 0 where
   pub rest : IsRest w.scratch
   pub whole : w.setting.limit ≡ length w.setting.bytes
-  pub blank : w.flags.blank ≡ false
   pub all : Bool
   pub open_leaf : Leaf
   pub is : (open_leaf ≡ (spot (path_after options bytes p n)).leaf) ⊎ (open_leaf ≡ NoLeaf)
   pub built : IsBuiltLeaf open_leaf
-  pub holds : IsOpen w all open_leaf
+  pub holds : (r : Rest) → IsOpen w r all open_leaf
 
 -- Where attempts begin.
 
@@ -160,30 +157,18 @@ pub record IsFurtherMet (c : Container) (w : World) : Type 0 where
 
 -- Where the leaf of a line begins.
 
--- The tokenizer has what the calls there require: nothing is known to be blank, and the line, before which so many were
--- fed, has met a leaf of which this holds: that which was open before it, or none where a container has opened.
+-- The tokenizer has what the calls there require: the line, before which so many were fed, has met a leaf of which this
+-- holds, whatever rest of the line is next. It is that which was open before the line, or none where a container has
+-- opened.
 pub record IsFrontMet (bytes : List ℕ) (options : ParseOptions) (p : Point) (n : ℕ) (w : World)
-    (Holds : Bool → Leaf → Type 0) : Type 0 where
+    (Holds : Rest → Bool → Leaf → Type 0) : Type 0 where
   pub ready : IsAtRest w
-  pub blank : w.flags.blank ≡ false
   pub all : Bool
   pub open_leaf : Leaf
   pub is : (open_leaf ≡ (spot (path_after options bytes p n)).leaf) ⊎ (open_leaf ≡ NoLeaf)
   pub built : IsBuiltLeaf open_leaf
-  pub holds : Holds all open_leaf
-
--- Or the leaf that was open before the line was asked first, and has refused it: no rest of a line that is next continues
--- it.
-pub record IsFrontRefused (bytes : List ℕ) (options : ParseOptions) (p : Point) (n : ℕ) (w : World) : Type 0 where
-  pub ready : IsAtRest w
-  pub open_leaf : Leaf
-  pub is : open_leaf ≡ (spot (path_after options bytes p n)).leaf
-  pub built : IsBuiltLeaf open_leaf
-  pub holds : w.flags.leaf ≡ kind_of_leaf open_leaf
-  pub first : is_asked_first open_leaf ≡ true
-  pub refused : (line : TextLine) (r : Rest) (stop : List Cell) →
-      IsNext bytes line r w.point (text_feed (text_setting bytes options p) w.point) stop →
-      is_continued options open_leaf r ≡ None
+  pub holds : (line : TextLine) (r : Rest) (stop : List Cell) →
+      IsNext bytes line r w.point (text_feed (text_setting bytes options p) w.point) stop → Holds r all open_leaf
 
 -- Flow has read a text, from a point on, and has become this.
 pub record FlowRan (bytes : List ℕ) (options : ParseOptions) (p : Point) (end : State) (at : World) : Type 0 where
@@ -246,10 +231,9 @@ pub record FlowRan (bytes : List ℕ) (options : ParseOptions) (p : Point) (end 
       (call : Calls FlowStep true t v t' v') → call.name ≡ s.Document document.FlowInside →
       IsFrontMet bytes options p (fed FlowStep true line_begins (flow_begins bytes options p) t v before) v
       (IsMetFirst v)
-  -- and those where leaves are tried in order, but after one that was asked first and has refused the line
+  -- and those where leaves are tried in order, also after one that was asked first and has refused the line
   pub tried_met : IsWithoutMdx options → p.index ≤ length bytes → p.vs ≡ 0 → 1 ≤ p.column →
       (t : State) (v : World) (t' : State) (v' : World)
       (before : Runs FlowStep true line_begins (flow_begins bytes options p) t v)
       (call : Calls FlowStep true t v t' v') → call.name ≡ s.Flow flow.Start →
       IsFrontMet bytes options p (fed FlowStep true line_begins (flow_begins bytes options p) t v before) v (IsMet v)
-      ⊎ IsFrontRefused bytes options p (fed FlowStep true line_begins (flow_begins bytes options p) t v before) v

@@ -335,24 +335,28 @@ is_asked_first (OpenHtml how lines) = true
 is_asked_first open_leaf = false
 
 -- Flow takes the rest of a line as what it is by the line definition: all leaves were tried in order.
-abbrev pub IsLineCall : Behaviour → World → State → World → (Bool → Leaf → Type 0) → Type 0
+abbrev pub IsLineCall : Behaviour → World → State → World → (Rest → Bool → Leaf → Type 0) → Type 0
 IsLineCall B old answer new Meets =
     (feed : Feed) (line : TextLine) (r : Rest) (stop : List Cell) (all : Bool) (open_leaf : Leaf) →
-    Sees feed old → IsRest old.scratch → old.flags.blank ≡ false →
-    IsNext old.setting.bytes line r old.point (feed old.point) stop → IsBuiltLeaf open_leaf → Meets all open_leaf →
+    Sees feed old → IsRest old.scratch → IsNext old.setting.bytes line r old.point (feed old.point) stop →
+    IsBuiltLeaf open_leaf → Meets r all open_leaf →
     Leaves B feed old answer new
     (IsLineEnded B (AreOf old.setting.options (role_met old.setting.options all open_leaf r) line r)
     (place line (line_end line)) stop (here old))
 
 -- after the containers of the line, where this leaf is open before it and all continued or not
-abbrev pub IsOpen : World → Bool → Leaf → Type 0
-IsOpen w all open_leaf =
+abbrev pub IsOpen : World → Rest → Bool → Leaf → Type 0
+IsOpen w r all open_leaf =
     (w.flags.leaf ≡ kind_of_leaf open_leaf) × (all ≡ not (nat_lt w.flags.continued (length w.flags.containers)))
+    × (w.flags.blank ≡ false)
 
 -- where a leaf may be asked first: the line has met this one
-abbrev pub IsMetFirst : World → Bool → Leaf → Type 0
-IsMetFirst w all open_leaf = w.flags.leaf ≡ met_by all (kind_of_leaf open_leaf)
+abbrev pub IsMetFirst : World → Rest → Bool → Leaf → Type 0
+IsMetFirst w r all open_leaf = (w.flags.leaf ≡ met_by all (kind_of_leaf open_leaf)) × (w.flags.blank ≡ false)
 
--- where leaves are tried: the line has met this one, which is not asked first
-abbrev pub IsMet : World → Bool → Leaf → Type 0
-IsMet w all open_leaf = (w.flags.leaf ≡ met_by all (kind_of_leaf open_leaf)) × (is_asked_first open_leaf ≡ false)
+-- where leaves are tried: the line has met this one; if it is asked first, it was, and the line does not continue it
+pub record IsMet (w : World) (r : Rest) (all : Bool) (open_leaf : Leaf) : Type 0 where
+  pub holds : w.flags.leaf ≡ met_by all (kind_of_leaf open_leaf)
+  pub refused : all ≡ true → is_asked_first open_leaf ≡ true → is_continued w.setting.options open_leaf r ≡ None
+  -- the ending of a blank line may be known as such
+  pub blank : is_blank r.bytes ≡ false → w.flags.blank ≡ false

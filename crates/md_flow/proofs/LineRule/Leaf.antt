@@ -33,7 +33,7 @@ use Rattle.proof_exact_lines.proofs.LeafLines.{ends-at}
 use Rattle.proof_exact_lines.proofs.OnLine.{on-begins}
 use Rattle.proof_frame.proofs.LeafLaws.{left_open, whole_line}
 use Rattle.proof_frame.proofs.LineEnds.{line-ends}
-use Rattle.proof_frame.proofs.RestRows.{rest-ending}
+use Rattle.proof_frame.proofs.RestRows.{rest-blank, rest-ending}
 use Rattle.proof_frame.specs.LeafName.{CodeIndented, LeafName}
 use Rattle.proof_frame.specs.RestLine.{rest_line}
 use Rattle.proof_frame.specs.Rule.{Rule}
@@ -65,6 +65,13 @@ next-stop text line r p cells stop is =
 pub next-short : (text : List ℕ) (line : TextLine) (r : Rest) (p : Point) (cells stop : List Cell) →
     IsNext text line r p cells stop → length cells ≤ any_size
 next-short text line r p cells stop is = let short = is.short in omega arith
+
+-- it is blank by its cells if its bytes are
+pub next-blank : (text : List ℕ) (line : TextLine) (r : Rest) (p : Point) (cells stop : List Cell) →
+    IsNext text line r p cells stop → is_blank (line_bytes cells) ≡ is_blank r.bytes
+next-blank text line r p cells stop is =
+    ap (λ (l : List Cell). is_blank (line_bytes l)) is.are
+    ∙ rest-blank is.said r p stop is.plain is.stops (let at = is.on.valid.column in omega arith) is.on.valid.cut
 
 -- the cells of the rest, and what is after them, are few
 pub rest-short : (text : List ℕ) (line : TextLine) (r : Rest) (p : Point) (cells stop : List Cell) →

@@ -1,7 +1,7 @@
 -- The leaf of a line: what is left where the leaves are tried, and after the containers of the line.
 use Rattle.std.proofs.Common.{◌≡◌, ℕ, Bool, true, false, cond, List, [], ◌∷◌, ◌++◌, inl}
 use Rattle.std.proofs.Common.{refl, sym, ap, ap₂, ◌∙◌, subst}
-use Rattle.std.specs.Prelude.{Option, None}
+use Rattle.std.specs.Prelude.{Some}
 use Rattle.md_engine.specs.declared.configuration.ParseOptions.{ParseOptions}
 use Rattle.md_engine.specs.declared.event.Event.{Event}
 use Rattle.md_engine.specs.declared.event.Name.TheVariants as n
@@ -12,28 +12,25 @@ use Rattle.md_engine.specs.declared.state.State.TheVariants.{Next}
 use Rattle.md_engine.specs.declared.state.document.State.TheVariants as document
 use Rattle.md_engine.specs.declared.state.flow.State.TheVariants as flow
 use Rattle.md_engine.specs.declared.tokenizer.held_leaf.HeldLeaf.{HeldLeaf}
-use Rattle.md_engine.specs.declared.tokenizer.held_leaf.HeldLeaf.TheVariants as held_leaf
 use Rattle.md_engine.specs.Meaning.{Behaviour, Cell, Here, Outcome, here}
 use Rattle.md_engine.specs.World.{World}
 use Rattle.md_engine.proofs.StepOf.{steps-as}
 use Rattle.md_content.specs.Chunks.{content_link}
 use Rattle.md_events.proofs.RestCells.{rest_cells}
-use Rattle.md_events.specs.Ahead.{line_end as cells_end}
+use Rattle.md_events.specs.Ahead.{from_ending, line_end as cells_end}
 use Rattle.md_events.specs.Events.Nested.{enter_link, exit}
-use Rattle.md_events.specs.Spaces.{IsRest}
 use Rattle.md_exact.specs.Places.{TextLine, line_end, place}
 use Rattle.md_exact.specs.Rows.{FirstText, FurtherText, Role, Row}
 use Rattle.md_meaning.specs.Rest.{Rest}
-use Rattle.md_meaning.specs.State.{Leaf, NoLeaf, OpenCode, OpenFence, OpenHtml, OpenParagraph, OpenTable}
+use Rattle.md_meaning.specs.State.{Leaf}
 use Rattle.md_registry.proofs.Registry.{container-states, leaf-states, white_has}
 use Rattle.md_registry.proofs.FlowSteps.{containers_means, leaves_means}
-use Rattle.md_registry.proofs.Registry.{insider-none}
 use Rattle.md_registry.specs.Document.{document_own_transition}
 use Rattle.md_registry.specs.Flow.{flow_own_transition}
-use Rattle.md_registry.specs.FlowRule.{HasFlow, inside_by, inside_of, line_ended}
+use Rattle.md_registry.specs.FlowRule.{HasFlow, line_ended}
 use Rattle.md_registry.specs.LineFlags.{begun_line}
 use Rattle.md_registry.specs.OpenSpan.{IsBuiltLeaf}
-use Rattle.md_registry.specs.Registry.{asked_first}
+use Rattle.md_registry.specs.Registry.{asked_first, leaf}
 use Rattle.md_registry.specs.States.{flow_behaves_by}
 use Rattle.proof_rows.proofs.KindRoles.{kind_role, line-role}
 use Rattle.proof_exact_lines.proofs.BeginsAt.{begins-place}
@@ -47,10 +44,11 @@ use Rattle.proof_rows.proofs.KindLemmas.{kind-starts}
 use Rattle.proof_rows.proofs.RowKinds.{blank-inside, kind-rest, leaf-inside}
 use Rattle.proof_rows.specs.Rows.{line_kind, row_kind}
 use Rattle.md_flow.proofs.LineRule.Events.{leaf-added}
-use Rattle.md_flow.proofs.LineRule.Leaf.{next-begins, next-end, next-short, next-stop, rest-short, steps-leave}
+use Rattle.md_flow.proofs.LineRule.Leaf.{next-begins, next-blank, next-end, next-short, next-stop, rest-short}
+use Rattle.md_flow.proofs.LineRule.Leaf.{steps-leave}
+use Rattle.md_flow.proofs.LineRule.Refused.{not-taken, tried-is}
 use Rattle.md_flow.proofs.LineRule.Role.{met}
-use Rattle.md_flow.specs.LineRule.{AreOf, IsLineCall, IsLineEnded, IsMet, IsMetFirst, IsNext, IsOpen, is_asked_first}
-use Rattle.md_flow.specs.LineRule.{role_met}
+use Rattle.md_flow.specs.LineRule.{AreOf, IsLineCall, IsLineEnded, IsMet, IsMetFirst, IsNext, IsOpen, role_met}
 
 -- The behaviour of the table has the rule of flow.
 pub flow_has : (bytes : List ℕ) (options : ParseOptions) (next : Rule) →
@@ -131,14 +129,14 @@ line-added options text line r p cells stop all open_leaf built is =
     same true = line-role options r open_leaf true true built
     same false = line-role options r open_leaf false true built
 
--- What is left of the rest of a line after its containers.
+-- What is left of the rest of a line, where what follows is its ending by its kind.
 line-left : (options : ParseOptions) (text : List ℕ) (next : Rule) (line : TextLine) (r : Rest) (cells stop : List Cell)
-    (h : Here) (all : Bool) (open_leaf : Leaf) →
-    IsRest h.scratch → h.flags.blank ≡ false → IsNext text line r h.point cells stop → IsBuiltLeaf open_leaf →
-    h.flags.leaf ≡ met all open_leaf →
+    (h : Here) (all : Bool) (open_leaf : Leaf) (o : Outcome) →
+    o ≡ line_ended next (from_ending cells) (leaf_here options cells h (row_kind options h.flags.leaf cells)) →
+    IsNext text line r h.point cells stop → IsBuiltLeaf open_leaf → h.flags.leaf ≡ met all open_leaf →
     IsLineEnded (flow_behaves_by text options next) (AreOf options (role_met options all open_leaf r) line r)
-    (place line (line_end line)) stop h (inside_of options next cells h)
-line-left options text next line r cells stop h all open_leaf rest flag is built on = record {
+    (place line (line_end line)) stop h o
+line-left options text next line r cells stop h all open_leaf o same is built on = record {
   events = added_by options h.flags.leaf cells h.point (row_kind options h.flags.leaf cells);
   are =
       subst
@@ -147,9 +145,7 @@ line-left options text next line r cells stop h all open_leaf rest flag is built
       (added_by options held cells h.point (row_kind options held cells))) (sym on)
       (line-added options text line r h.point cells stop all open_leaf built is);
   to = to;
-  ends =
-      inside-is options next cells h (next-short text line r h.point cells stop is) rest flag
-      ∙ ap (λ (l : List Cell). line_ended next l to) (next-stop text line r h.point cells stop is);
+  ends = same ∙ ap (λ (l : List Cell). line_ended next l to) (next-stop text line r h.point cells stop is);
   added = refl;
   point = next-end text line r h.point cells stop is;
 }
@@ -157,53 +153,48 @@ line-left options text next line r cells stop h all open_leaf rest flag is built
     to : Here
     to = leaf_here options cells h (row_kind options h.flags.leaf cells)
 
--- Where leaves are tried none is asked first.
-unasked : (all : Bool) (open_leaf : Leaf) → is_asked_first open_leaf ≡ false → asked_first (met all open_leaf) ≡ None
-unfolding asked_first
-unasked true NoLeaf e = insider-none held_leaf.None refl
-unasked true (OpenParagraph lines) e = insider-none (met true (OpenParagraph lines)) refl
-unasked true (OpenTable delimiter rows) e = refl
-unasked false NoLeaf e = insider-none held_leaf.None refl
-unasked false (OpenParagraph lines) e = insider-none (met false (OpenParagraph lines)) refl
-unasked false (OpenTable delimiter rows) e = insider-none held_leaf.None refl
-unasked all (OpenCode lines) e = cc
-unasked all (OpenFence o lines) e = cc
-unasked all (OpenHtml kind lines) e = cc
-
 pub tried-call : (w new : World) (to : State) (next : Rule) → to ≡ (flow_own_transition flow.Start w).to →
     new ≡ (flow_own_transition flow.Start w).world →
     IsLineCall (flow_behaves_by w.setting.bytes w.setting.options next) w to new (IsMet w)
-tried-call w new to next e k feed line r stop all open_leaf sees rest flag is built on =
-    steps-leave B feed (s.Flow flow.Start) w new to Is
+tried-call w new to next e k feed line r stop all open_leaf sees rest is built on =
+    steps-leave B feed (s.Flow flow.Start) w new to
+    (IsLineEnded B (AreOf options (role_met options all open_leaf r) line r) (place line (line_end line)) stop (here w))
     (steps-as B feed (Next (s.Flow flow.Start)) _ to w _ new e k
-    (leaves_means B feed next flow.Start w (flow_has w.setting.bytes w.setting.options next) sees rest))
-    (subst Is
-    (ap (λ (o : Option LeafName). inside_by w.setting.options next o (feed w.point) (here w))
-    (ap asked_first on.0 ∙ unasked all open_leaf on.1))
-    (line-left w.setting.options w.setting.bytes next line r (feed w.point) stop (here w) all open_leaf rest flag is
-    built on.0))
+    (leaves_means B feed next flow.Start w (flow_has w.setting.bytes options next) sees rest))
+    (line-left options w.setting.bytes next line r cells stop (here w) all open_leaf _
+    (tried-is options next cells (here w) (next-short w.setting.bytes line r w.point cells stop is) rest
+    (λ some. on.blank (sym (next-blank w.setting.bytes line r w.point cells stop is) ∙ some)) refused) is built on.holds)
   where
-    B : Behaviour
-    B = flow_behaves_by w.setting.bytes w.setting.options next
+    options : ParseOptions
+    options = w.setting.options
 
-    Is : Outcome → Type 0
-    Is =
-        IsLineEnded B (AreOf w.setting.options (role_met w.setting.options all open_leaf r) line r)
-        (place line (line_end line)) stop (here w)
+    B : Behaviour
+    B = flow_behaves_by w.setting.bytes options next
+
+    cells : List Cell
+    cells = feed w.point
+
+    refused : (l : LeafName) → asked_first w.flags.leaf ≡ Some l →
+        (leaf l).takes options w.flags.leaf cells ≡ false
+    refused l asked =
+        ap (λ (held : HeldLeaf). (leaf l).takes options held cells) on.holds
+        ∙ not-taken options w.setting.bytes line r w.point cells stop open_leaf built is all on.refused l
+        (ap asked_first (sym on.holds) ∙ asked)
 
 pub asked-call : (w new : World) (to : State) (next : Rule) →
     to ≡ (document_own_transition document.FlowInside w).to →
     new ≡ (document_own_transition document.FlowInside w).world →
     IsLineCall (flow_behaves_by w.setting.bytes w.setting.options next) w to new (IsMetFirst w)
-asked-call w new to next e k feed line r stop all open_leaf sees rest flag is built on =
+asked-call w new to next e k feed line r stop all open_leaf sees rest is built on =
     steps-leave B feed (s.Document document.FlowInside) w new to
     (IsLineEnded B (AreOf w.setting.options (role_met w.setting.options all open_leaf r) line r)
     (place line (line_end line)) stop (here w))
     (steps-as B feed (Next (s.Document document.FlowInside)) _ to w _ new e k
     (containers_means B feed next document.FlowInside w (flow_has w.setting.bytes w.setting.options next) sees tt
     (inl refl) (λ x. cc) (λ x. cc)))
-    (line-left w.setting.options w.setting.bytes next line r (feed w.point) stop (here w) all open_leaf rest flag is
-    built on)
+    (line-left w.setting.options w.setting.bytes next line r (feed w.point) stop (here w) all open_leaf _
+    (inside-is w.setting.options next (feed w.point) (here w)
+    (next-short w.setting.bytes line r w.point (feed w.point) stop is) rest on.1) is built on.0)
   where
     B : Behaviour
     B = flow_behaves_by w.setting.bytes w.setting.options next
@@ -224,14 +215,16 @@ pub open-call : (w new : World) (to : State) (next : Rule) →
     to ≡ (document_own_transition document.ContainersAfter w).to →
     new ≡ (document_own_transition document.ContainersAfter w).world →
     IsLineCall (flow_behaves_by w.setting.bytes w.setting.options next) w to new (IsOpen w)
-open-call w new to next e k feed line r stop all open_leaf sees rest flag is built on =
+open-call w new to next e k feed line r stop all open_leaf sees rest is built on =
     steps-leave B feed (s.Document document.ContainersAfter) w new to Is
     (steps-as B feed (Next (s.Document document.ContainersAfter)) _ to w _ new e k
     (containers_means B feed next document.ContainersAfter w (flow_has w.setting.bytes w.setting.options next) sees tt
     (inl refl) (λ x. cc) (λ x. cc)))
     (ended-from B (AreOf w.setting.options (role_met w.setting.options all open_leaf r) line r)
     (place line (line_end line)) stop (here w) begun _ refl
-    (line-left w.setting.options w.setting.bytes next line r (feed w.point) stop begun all open_leaf rest flag is built
+    (line-left w.setting.options w.setting.bytes next line r (feed w.point) stop begun all open_leaf _
+    (inside-is w.setting.options next (feed w.point) begun
+    (next-short w.setting.bytes line r w.point (feed w.point) stop is) rest on.2) is built
     (ap₂ (λ (x : Bool) (held : HeldLeaf). met_by x held) (sym on.1) on.0)))
   where
     -- the containers of the line are known
