@@ -42,6 +42,7 @@ pub mod TextRule
 pub mod PartLabels
 pub mod PartLined
 pub mod PartLaid
+pub mod PartFilled
 pub mod LineWaits
 pub mod PartBlocks
 pub mod PartHeld

@@ -1,5 +1,6 @@
 -- Where flow has read all of a text that ends with a line ending, and waits for a line in no container where a text is
--- open, a paragraph is open by the line definition, and no container.
+-- open, a paragraph is open by the line definition, and no container. Where it waits outside of leaves, too, nothing is
+-- open.
 use Rattle.md_engine.specs.declared.tokenizer.held_leaf.HeldLeaf.{HeldLeaf}
 use Rattle.md_engine.specs.declared.tokenizer.held_leaf.HeldLeaf.TheVariants as held_leaf
 use Rattle.md_engine.specs.declared.tokenizer.held_leaf.OpenText.{OpenText}
@@ -24,6 +25,7 @@ use Rattle.md_engine.proofs.Keeps.{runs-setting}
 use Rattle.md_events.proofs.FeedLines.{feed-none}
 use Rattle.md_events.specs.Events.Places.{last_line}
 use Rattle.md_exact.specs.Places.{TextLine, line_at, lines_from, whole}
+use Rattle.md_exact.specs.Prefixes.{containers}
 use Rattle.md_leaves.specs.BlankRule.{blank_at}
 use Rattle.std.specs.List.{onto_first}
 use Rattle.md_meaning.specs.Lines.{ends_line, full_lines_of}
@@ -43,7 +45,7 @@ use Rattle.proof_exact.proofs.TextLines.{have-bytes}
 use Rattle.proof_frame.specs.HeldLeaf.{MatchesLeaf, met_by}
 use Rattle.proof_frame.specs.Row.{Row}
 use Rattle.proof_leaf_laws.proofs.FullLines.{full-lines}
-use Rattle.proof_exact.specs.Parts.{EndsLine, IsTextCut, nothing_open, open_after, placed_lines}
+use Rattle.proof_exact.specs.Parts.{EndsLine, IsCut, IsTextCut, nothing_open, open_after, placed_lines}
 use Rattle.proof_exact.proofs.TextParts.{text-lines}
 use Rattle.proof_rows.specs.TextRows.{text_rows, text_setting}
 use Rattle.proof_rows.specs.Valid.{AreOpen, containers_of}
@@ -53,9 +55,10 @@ use Rattle.proof_rows.proofs.RowFacts.{AreRows, following_line}
 use Rattle.proof_rows.proofs.RowLemmas.{fresh-rows}
 use Rattle.markdown_blocks.specs.Fed.{AfterLines, fed, flow_begins, line_begins, path_after, place_following}
 use Rattle.markdown_blocks.specs.Fed.{rests_from}
-use Rattle.markdown_blocks.specs.PartRead.{BeginsPart, WaitsInText}
+use Rattle.markdown_blocks.specs.PartRead.{BeginsPart, WaitsInText, WaitsOutside}
 use Rattle.markdown_blocks.proofs.LinesFed.{LineFed, line-fed, line-last, line_behaves, line_stop}
 use Rattle.markdown_blocks.proofs.LinesFed.{none-or-ending, text-within}
+use Rattle.markdown_blocks.proofs.PartFilled.{EndFilled, filled-cut, last-filled}
 use Rattle.markdown_blocks.proofs.ValidLemmas.{rows-size, valid-following}
 
 -- Lines, all but the last.
@@ -157,13 +160,50 @@ place-end options bytes cs still p lines rows n are last many = absurd are
 
 -- Flow has come to the last line.
 
--- where nothing is left, an open text ends
-text-finishes : (options : ParseOptions) (h : Here) (held : OpenText) → h.flags.leaf ≡ held_leaf.Text held →
+-- no leaf is asked first, whether all containers continue or not: none is open, or a text
+abbrev AsksNone : HeldLeaf → Type 0
+AsksNone leaf = (x : Bool) → asked_first (met_by x leaf) ≡ None
+
+text-asks : (held : OpenText) → AsksNone (held_leaf.Text held)
+unfolding asked_first
+text-asks held true = refl
+text-asks held false = refl
+
+none-asks : AsksNone held_leaf.None
+unfolding asked_first
+none-asks true = refl
+none-asks false = refl
+
+-- flow waits for a line in no container, and no leaf is asked first
+record Waits (state : State) (w : World) : Type 0 where
+  at : state ≡ line_begins
+  frames : w.frames ≡ []
+  containers : w.flags.containers ≡ []
+  asks : AsksNone w.flags.leaf
+
+in-text : (state : State) (w : World) → WaitsInText state w → Waits state w
+in-text state w is = record {
+  at = is.at;
+  frames = is.frames;
+  containers = is.containers;
+  asks = subst AsksNone (sym is.leaf) (text-asks is.held);
+}
+
+outside : (state : State) (w : World) → WaitsOutside state w → Waits state w
+outside state w is = record {
+  at = is.at;
+  frames = is.frames;
+  containers = is.containers;
+  asks = subst AsksNone (sym is.leaf) none-asks;
+}
+
+-- where nothing is left, what is open ends
+line-finishes : (options : ParseOptions) (h : Here) → AsksNone h.flags.leaf →
     Finishes (line_then options line_stop [] h)
 unfolding line_then existing_from asked_first blank_at
-text-finishes options h held leaf =
+line-finishes options h none =
     by (met_by (not (nat_lt k.flags.continued (length k.flags.containers))) k.flags.leaf)
-    (ap (met_by (not (nat_lt k.flags.continued (length k.flags.containers)))) leaf)
+    (none (not (nat_lt k.flags.continued (length k.flags.containers))))
   where
     k : Here
     k = record h { flags = ended_on h.flags }
@@ -175,16 +215,9 @@ text-finishes options h held leaf =
     go None e = refl
     go (Some l) e = cc
 
-    asks : (x : Bool) → asked_first (met_by x (held_leaf.Text held)) ≡ None
-    asks true = refl
-    asks false = refl
-
-    by : (leaf : HeldLeaf) →
-        leaf ≡ met_by (not (nat_lt k.flags.continued (length k.flags.containers))) (held_leaf.Text held) →
+    by : (leaf : HeldLeaf) → asked_first leaf ≡ None →
         Finishes (inside_by options line_stop (asked_first leaf) [] m)
-    by leaf e =
-        go (asked_first leaf)
-        (ap asked_first e ∙ asks (not (nat_lt k.flags.continued (length k.flags.containers))))
+    by leaf e = go (asked_first leaf) e
 
 accepts-all : (o : Outcome) → Finishes o → (new : Here) × (o ≡ Accepts new [])
 accepts-all (Accepts h rest) f = (h, ap (Accepts h) f)
@@ -236,13 +269,13 @@ module _ (options : ParseOptions) (bytes : List ℕ) (p : Point) (built : IsWith
 
   -- all lines were fed but the last
   all-fed : (end : State) (at : World) (run : Runs FlowStep true line_begins (flow_begins bytes options p) end at) →
-      WaitsInText end at → length bytes ≤ at.point.index →
+      Waits end at → length bytes ≤ at.point.index →
       suc (fed FlowStep true line_begins (flow_begins bytes options p) end at run) ≡ length all
   all-fed end at run waits past =
       let x : Setting = text_setting bytes options p in
       let w = text-within bytes options p small end at run in
       let done = accepts-all (line_then options line_stop [] (here at))
-      (text-finishes options (here at) waits.held waits.leaf) in
+      (line-finishes options (here at) waits.asks) in
       line-last options p all (fed FlowStep true line_begins (flow_begins bytes options p) end at run) w.left w.begin
       w.line done.0
       (sym w.becomes
@@ -291,7 +324,37 @@ module _ (options : ParseOptions) (bytes : List ℕ) (p : Point) (built : IsWith
           subst (λ (n : ℕ). LineFed bytes options p n v') same
           (line-fed bytes options p small t v t' v' r.same (call-at_end t v t' v' c) lines)
 
-  -- So a paragraph is open there.
+  -- there these lines are behind
+  after-lines : (end : State) (at : World)
+      (run : Runs FlowStep false line_begins (flow_begins bytes options p) end at) → Waits end at →
+      length bytes ≤ at.point.index → AfterLines bytes options p (length is.lines) at
+  after-lines end at run waits past =
+      valid-following bytes options p (length is.lines) at built small begins.placed.index begins.whole begins.column
+      (stays-there (length is.lines) (sym many) some end at run count)
+    where
+      r : AtEnd line_begins (flow_begins bytes options p) end at run
+      r = run-at_end line_begins (flow_begins bytes options p) end at run
+
+      count : fed FlowStep false line_begins (flow_begins bytes options p) end at run ≡ length is.lines
+      count =
+          let total = all-fed end at r.same waits past in let l = r.lines in omega (arith, total, l, many)
+
+      some : 0 < length is.lines
+      some =
+          subst (λ (n : ℕ). 0 < n)
+          (sym
+          (ap (λ (ls : List TextLine). length ls) is.are
+          ∙ placed-size p.line p.index (p.column - 1) (full_lines_of (drop p.index bytes))))
+          (some-lines (drop p.index bytes) ends)
+
+  -- and this is open
+  abbrev path : Path
+  path = path_after options bytes p (length is.lines)
+
+  opens : open_after options nothing_open is.lines ≡ path
+  opens = ap (steps options nothing_open) (sym is.rests)
+
+  -- So a paragraph is open there,
   pub text-cut : (end : State) (at : World)
       (run : Runs FlowStep false line_begins (flow_begins bytes options p) end at) → WaitsInText end at →
       length bytes ≤ at.point.index →
@@ -301,34 +364,8 @@ module _ (options : ParseOptions) (bytes : List ℕ) (p : Point) (built : IsWith
       (go path refl (subst (λ (l : List Held). AreOpen l (containers_of path)) waits.containers after.valid.containers)
       (sym waits.leaf ∙ after.valid.leaf))
     where
-      r : AtEnd line_begins (flow_begins bytes options p) end at run
-      r = run-at_end line_begins (flow_begins bytes options p) end at run
-
-      N : ℕ
-      N = length is.lines
-
-      count : fed FlowStep false line_begins (flow_begins bytes options p) end at run ≡ N
-      count =
-          let total = all-fed end at r.same waits past in let l = r.lines in omega (arith, total, l, many)
-
-      after : AfterLines bytes options p N at
-      after =
-          valid-following bytes options p N at built small begins.placed.index begins.whole begins.column
-          (stays-there N (sym many) some end at run count)
-        where
-          some : 0 < N
-          some =
-              subst (λ (n : ℕ). 0 < n)
-              (sym
-              (ap (λ (ls : List TextLine). length ls) is.are
-              ∙ placed-size p.line p.index (p.column - 1) (full_lines_of (drop p.index bytes))))
-              (some-lines (drop p.index bytes) ends)
-
-      path : Path
-      path = path_after options bytes p N
-
-      opens : open_after options nothing_open is.lines ≡ path
-      opens = ap (steps options nothing_open) (sym is.rests)
+      after : AfterLines bytes options p (length is.lines) at
+      after = after-lines end at run (in-text end at waits) past
 
       go : (q : Path) → path ≡ q → AreOpen [] (containers_of q) →
           MatchesLeaf (held_leaf.Text waits.held) (spot q).leaf → IsTextCut options is.lines
@@ -344,6 +381,40 @@ module _ (options : ParseOptions) (bytes : List ℕ) (p : Point) (built : IsWith
                 ∙ ap (λ (l : Leaf). let j : Innermost = record { here = i.here; leaf = l } in At j) k;
           }
           by NoLeaf k m = absurd (cc)
+          by (OpenCode lines) k m = absurd (cc)
+          by (OpenFence o lines) k m = absurd (cc)
+          by (OpenHtml kind lines) k m = absurd (cc)
+          by (OpenTable d rows) k m = absurd (cc)
+
+  -- or nothing is open, and the last block is no item where the last line is not blank.
+  pub outside-cut : (end : State) (at : World)
+      (run : Runs FlowStep false line_begins (flow_begins bytes options p) end at) → WaitsOutside end at →
+      length bytes ≤ at.point.index → EndFilled (drop p.index bytes) →
+      IsCut options (placed_lines p.line p.index (p.column - 1) (full_lines_of (drop p.index bytes)))
+  outside-cut end at run waits past filled =
+      go path refl (subst (λ (l : List Held). AreOpen l (containers_of path)) waits.containers after.valid.containers)
+      (sym waits.leaf ∙ after.valid.leaf)
+    where
+      after : AfterLines bytes options p (length is.lines) at
+      after = after-lines end at run (outside end at waits) past
+
+      lines : List TextLine
+      lines = placed_lines p.line p.index (p.column - 1) (full_lines_of (drop p.index bytes))
+
+      here-open : open_after options nothing_open lines ≡ path
+      here-open = ap (open_after options nothing_open) (sym is.are) ∙ opens
+
+      go : (q : Path) → path ≡ q → AreOpen [] (containers_of q) → MatchesLeaf held_leaf.None (spot q).leaf →
+          IsCut options lines
+      go (Inside before c q) e none leaf = absurd none
+      go (At i) e none leaf = by i.leaf refl leaf
+        where
+          by : (l : Leaf) → i.leaf ≡ l → MatchesLeaf held_leaf.None l → IsCut options lines
+          by NoLeaf k m =
+              filled-cut options lines
+              (last-filled p.line p.index (p.column - 1) (drop p.index bytes) filled)
+              (ap containers (here-open ∙ e)) (ap (λ (q : Path). (spot q).leaf) (here-open ∙ e) ∙ k)
+          by (OpenParagraph text) k m = absurd (cc)
           by (OpenCode lines) k m = absurd (cc)
           by (OpenFence o lines) k m = absurd (cc)
           by (OpenHtml kind lines) k m = absurd (cc)

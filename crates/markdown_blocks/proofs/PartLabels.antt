@@ -15,11 +15,11 @@ use Rattle.md_meaning.specs.Step.{steps}
 use Rattle.md_meaning.specs.Tree.{Blocks}
 use Rattle.md_exact.specs.Places.{TextLine, whole}
 use Rattle.proof_content_laws.proofs.Labels.Trees.{grouped-defined, grouped-noted}
-use Rattle.proof_exact.specs.Parts.{BeginsEmpty, EndsLine, IsTextCut, empty_line, lines_blocks, nothing_open}
-use Rattle.proof_exact.specs.Parts.{placed_lines}
+use Rattle.proof_exact.specs.Parts.{AreTwoTrees, BeginsEmpty, EndsLine, IsCut, IsTextCut, empty_line, lines_blocks}
+use Rattle.proof_exact.specs.Parts.{nothing_open, placed_lines}
 use Rattle.proof_exact.proofs.TextCut.{tree-text}
 use Rattle.proof_exact.proofs.TextParts.{ends-alone, lines-append}
-use Rattle.proof_exact.proofs.TreeParts.{labels-joined}
+use Rattle.proof_exact.proofs.TreeParts.{labels-joined, tree-parts}
 use Rattle.markdown_blocks.specs.PartRead.{labels_listed}
 use Rattle.markdown_blocks.proofs.LineWaits.{some-lines}
 
@@ -96,33 +96,30 @@ grouped-same bs =
 abbrev labels_by : ParseOptions → ℕ → List (List ℕ) → Labels
 labels_by options column lines = labels (closed options (steps options nothing_open (rests_at column lines)))
 
-pub labels-cut : (options : ParseOptions) (number index column : ℕ) (bytes following : List ℕ) →
-    EndsLine bytes following → BeginsEmpty following →
-    IsTextCut options (placed_lines number index column (full_lines_of bytes)) →
+rests-further : (lines : List (List ℕ)) → map (rest_at 0) lines ≡ rests_at 0 lines
+rests-further [] = refl
+rests-further (line ∷ lines) = refl
+
+-- where the tree of all lines is that of the first ones and then of the others
+labels-two : (options : ParseOptions) (number index column : ℕ) (bytes following : List ℕ) →
+    EndsLine bytes following → (more : List TextLine) → map whole more ≡ map (rest_at 0) (lines_of following) →
+    AreTwoTrees options (placed_lines number index column (full_lines_of bytes)) more →
     labels_by options column (lines_of (bytes ++ following))
     ≡ both (labels_by options column (lines_of bytes)) (labels_by options 0 (lines_of following))
-labels-cut options number index column bytes following ends begins cut =
+labels-two options number index column bytes following ends more are two =
     ap (λ (rs : List Rest). labels (closed options (steps options nothing_open rs))) (sym all)
-    ∙ sym (grouped-same (lines_blocks options (lines ++ empty ∷ more)))
-    ∙ ap labels (tree-text options lines 0 0 0 [] more cut)
-    ∙ labels-joined (grouped (lines_blocks options lines)) (grouped (lines_blocks options (empty ∷ more)))
-    ∙ ap₂ both (grouped-same (lines_blocks options lines)) (grouped-same (lines_blocks options (empty ∷ more)))
+    ∙ sym (grouped-same (lines_blocks options (lines ++ more)))
+    ∙ ap labels two
+    ∙ labels-joined (grouped (lines_blocks options lines)) (grouped (lines_blocks options more))
+    ∙ ap₂ both (grouped-same (lines_blocks options lines)) (grouped-same (lines_blocks options more))
     ∙ ap₂ both
     (ap (λ (rs : List Rest). labels (closed options (steps options nothing_open rs)))
     (placed-whole number index column (full_lines_of bytes)))
-    (ap (λ (rs : List Rest). labels (closed options (steps options nothing_open rs))) rest)
+    (ap (λ (rs : List Rest). labels (closed options (steps options nothing_open rs)))
+    (are ∙ rests-further (lines_of following)))
   where
-    first : EmptyFirst (lines_of following)
-    first = begins-empty following begins
-
     lines : List TextLine
     lines = placed_lines number index column (full_lines_of bytes)
-
-    empty : TextLine
-    empty = empty_line 0 0 0 []
-
-    more : List TextLine
-    more = map line_of first.owns
 
     some : 0 < length (lines_of bytes)
     some =
@@ -130,21 +127,38 @@ labels-cut options number index column bytes following ends begins cut =
         let one = some-lines bytes (ends-alone bytes following ends) in
         omega (arith, size, one)
 
-    further : map whole (empty ∷ more) ≡ map (rest_at 0) (lines_of following)
-    further =
-        ap (λ (rs : List Rest). rest_at 0 [] ∷ rs) (line-rests first.owns) ∙ ap (map (rest_at 0)) (sym first.are)
-
-    rest : map whole (empty ∷ more) ≡ rests_at 0 (lines_of following)
-    rest = ap (λ (rs : List Rest). rest_at 0 [] ∷ rs) (line-rests first.owns) ∙ ap (rests_at 0) (sym first.are)
-
-    all : map whole (lines ++ empty ∷ more) ≡ rests_at column (lines_of (bytes ++ following))
+    all : map whole (lines ++ more) ≡ rests_at column (lines_of (bytes ++ following))
     all =
-        map-append whole lines (empty ∷ more)
-        ∙ ap₂ (λ (rs ss : List Rest). rs ++ ss) (placed-whole number index column (full_lines_of bytes)) further
+        map-append whole lines more
+        ∙ ap₂ (λ (rs ss : List Rest). rs ++ ss) (placed-whole number index column (full_lines_of bytes)) are
         ∙ sym (rests-append column (lines_of bytes) (lines_of following) some)
         ∙ ap (rests_at column)
         (sym (map-append without_ending (full_lines_of bytes) (full_lines_of following))
         ∙ ap (map without_ending) (sym (lines-append bytes following ends)))
+
+-- before an empty line that ends a paragraph,
+pub labels-cut : (options : ParseOptions) (number index column : ℕ) (bytes following : List ℕ) →
+    EndsLine bytes following → BeginsEmpty following →
+    IsTextCut options (placed_lines number index column (full_lines_of bytes)) →
+    labels_by options column (lines_of (bytes ++ following))
+    ≡ both (labels_by options column (lines_of bytes)) (labels_by options 0 (lines_of following))
+labels-cut options number index column bytes following ends begins cut =
+    let first : EmptyFirst (lines_of following) = begins-empty following begins in
+    labels-two options number index column bytes following ends (empty_line 0 0 0 [] ∷ map line_of first.owns)
+    (ap (λ (rs : List Rest). rest_at 0 [] ∷ rs) (line-rests first.owns) ∙ ap (map (rest_at 0)) (sym first.are))
+    (tree-text options (placed_lines number index column (full_lines_of bytes)) 0 0 0 [] (map line_of first.owns)
+    cut)
+
+-- and where nothing is open, and no item is last
+pub labels-after : (options : ParseOptions) (number index column : ℕ) (bytes following : List ℕ) →
+    EndsLine bytes following → IsCut options (placed_lines number index column (full_lines_of bytes)) →
+    labels_by options column (lines_of (bytes ++ following))
+    ≡ both (labels_by options column (lines_of bytes)) (labels_by options 0 (lines_of following))
+labels-after options number index column bytes following ends cut =
+    labels-two options number index column bytes following ends (map line_of (lines_of following))
+    (line-rests (lines_of following))
+    (tree-parts options (placed_lines number index column (full_lines_of bytes)) (map line_of (lines_of following))
+    cut)
 
 -- those that are listed are all, where there are none of footnotes that are off
 pub listed-all : (options : ParseOptions) (all : Labels) →

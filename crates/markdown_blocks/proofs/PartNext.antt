@@ -5,7 +5,7 @@ use Rattle.std.proofs.Common.{◌∙◌, subst, arith, append-nil, nat_lt, lengt
 use Rattle.std.specs.Prelude.{◌==◌, slice_index}
 use Rattle.std.proofs.Math.Seq.{drop-append_seam, drop-length}
 use Rattle.std.proofs.lemmas.Bool.{and_parts, eqb-true, not-true}
-use Rattle.md_meaning.specs.Rest.{tab_columns}
+use Rattle.md_meaning.specs.Rest.{is_white, tab_columns}
 use Rattle.std.proofs.lemmas.List.{drop-take, get_or-take, length-take-le}
 use Rattle.std.proofs.lemmas.List.Folds.{drop_split}
 use Rattle.md_engine.specs.declared.configuration.ParseOptions.{ParseOptions}
@@ -30,11 +30,13 @@ use Rattle.md_meaning.specs.Texts.{first_byte, split_lines}
 use Rattle.proof_exact_lines.proofs.Front.{begin}
 use Rattle.proof_exact.proofs.TextLines.{LinesLeft, lines-left}
 use Rattle.proof_leaf_laws.proofs.FullLines.{full-lines}
-use Rattle.proof_exact.specs.Parts.{BeginsEmpty, EndsLine, IsTextCut, events_from, nothing_open, placed_lines}
+use Rattle.proof_exact.specs.Parts.{BeginsEmpty, EndsLine, IsCut, IsTextCut, events_from, nothing_open}
+use Rattle.proof_exact.specs.Parts.{placed_lines}
 use Rattle.proof_exact.proofs.TextCut.{reads-on-text}
-use Rattle.proof_exact.proofs.TextParts.{ends-alone, text-lines}
-use Rattle.markdown_blocks.specs.PartRead.{BeginsPart, events_at, is_part_end, labels_at}
-use Rattle.markdown_blocks.proofs.PartLabels.{labels-cut}
+use Rattle.proof_exact.proofs.TextParts.{ends-alone, reads-on, text-lines}
+use Rattle.markdown_blocks.specs.PartRead.{BeginsPart, events_at, is_filled_end, is_line_begin, labels_at}
+use Rattle.markdown_blocks.proofs.PartFilled.{EndFilled}
+use Rattle.markdown_blocks.proofs.PartLabels.{labels-after, labels-cut}
 use Rattle.markdown_blocks.proofs.PartLined.{chunks-last, lined-append, lined-within, placed-before}
 use Rattle.markdown_blocks.proofs.PartLined.{placed-within}
 
@@ -58,32 +60,29 @@ at text i inside = go (drop i text) refl
 
 record IsEnd (text : List ℕ) (to : ℕ) : Type 0 where
   before : is_ending (slice_index text (to - 1)) ≡ true
-  here : is_ending (slice_index text to) ≡ true
   apart : is_pair text (to - 1) ≡ false
 
-is-end : (text : List ℕ) (to : ℕ) → is_part_end text to ≡ true → IsEnd text to
+is-end : (text : List ℕ) (to : ℕ) → is_line_begin text to ≡ true → IsEnd text to
 is-end text to h =
-    let outer = and_parts
-    (is_ending (slice_index text (to - 1)) && is_ending (slice_index text to)) (not (is_pair text (to - 1))) h in
-    let inner = and_parts (is_ending (slice_index text (to - 1))) (is_ending (slice_index text to)) outer.0 in
-    record { before = inner.0; here = inner.1; apart = not-true (is_pair text (to - 1)) outer.1 }
+    let both = and_parts (is_ending (slice_index text (to - 1))) (not (is_pair text (to - 1))) h in
+    record { before = both.0; apart = not-true (is_pair text (to - 1)) both.1 }
 
 -- no ending is cut there
-pub end-whole : (text : List ℕ) (to : ℕ) → is_part_end text to ≡ true → splits_pair text to ≡ false
+pub end-whole : (text : List ℕ) (to : ℕ) → is_line_begin text to ≡ true → splits_pair text to ≡ false
 end-whole text to h = ap (λ (x : Bool). nat_lt 0 to && x) (is-end text to h).apart ∙ go (nat_lt 0 to)
   where
     go : (x : Bool) → (x && false) ≡ false
     go true = refl
     go false = refl
 
--- an empty line begins there,
-begins-empty : (text : List ℕ) (to : ℕ) → to < length text → is_part_end text to ≡ true → BeginsEmpty (drop to text)
+-- an empty line may begin there,
+begins-empty : (text : List ℕ) (to : ℕ) → to < length text → is_ending (slice_index text to) ≡ true →
+    BeginsEmpty (drop to text)
 begins-empty text to inside h =
-    let a : At text to = at text to inside in
-    subst BeginsEmpty (sym a.is) (ap is_ending (sym a.same) ∙ (is-end text to h).here)
+    let a : At text to = at text to inside in subst BeginsEmpty (sym a.is) (ap is_ending (sym a.same) ∙ h)
 
 -- after a line that ends there
-last-ends : (text : List ℕ) (to b : ℕ) → to < length text → is_part_end text to ≡ true →
+last-ends : (text : List ℕ) (to b : ℕ) → to < length text → is_line_begin text to ≡ true →
     slice_index text (to - 1) ≡ b → 0 < to → ends_line b (drop to text) ≡ true
 last-ends text to b inside h same some =
     let a : At text to = at text to inside in
@@ -100,7 +99,7 @@ last-ends text to b inside h same some =
     go false true false h k = refl
     go false false z h k = cc
 
-ends-from : (text : List ℕ) (to : ℕ) → to < length text → is_part_end text to ≡ true → (n i : ℕ) →
+ends-from : (text : List ℕ) (to : ℕ) → to < length text → is_line_begin text to ≡ true → (n i : ℕ) →
     i + suc n ≡ to → EndsLine (drop i (take to text)) (drop to text)
 ends-from text to inside h zero i size = go (drop i (take to text)) refl
   where
@@ -141,13 +140,13 @@ ends-from text to inside h (suc n) i size =
         subst (λ (x : List ℕ). EndsLine x (drop to text))
         (ap (λ (n : ℕ). drop n (take to text)) more ∙ drop-next i (take to text) b (c ∷ l) e) below
 
-pub part-ends : (text : List ℕ) (to : ℕ) (p : Point) → to < length text → is_part_end text to ≡ true →
+pub part-ends : (text : List ℕ) (to : ℕ) (p : Point) → to < length text → is_line_begin text to ≡ true →
     p.index < to → EndsLine (drop p.index (take to text)) []
 part-ends text to p inside h before =
     ends-alone (drop p.index (take to text)) (drop to text)
     (ends-from text to inside h (to - p.index - 1) p.index (omega (arith, before)))
 
-pub part-begins : (text : List ℕ) (to : ℕ) (p : Point) → to < length text → is_part_end text to ≡ true →
+pub part-begins : (text : List ℕ) (to : ℕ) (p : Point) → to < length text → is_line_begin text to ≡ true →
     p.index < to → BeginsPart text p → BeginsPart (take to text) p
 part-begins text to p inside h before begins = record {
   placed = placed-before text to p (omega (arith, inside)) (end-whole text to h) before begins.placed;
@@ -155,6 +154,95 @@ part-begins text to p inside h before begins = record {
   whole = begins.whole;
   column = begins.column;
 }
+
+-- The last line before it is not blank.
+end-filled : (text : List ℕ) (to : ℕ) → to < length text → is_line_begin text to ≡ true →
+    is_filled_end text to ≡ true → (n i : ℕ) → i + suc (suc n) ≡ to → EndFilled (drop i (take to text))
+end-filled text to inside h filled zero i size =
+    subst EndFilled (sym is) (
+      ap is_ending (sym one) ∙ apart.0,
+      ap is_white (sym one) ∙ apart.1,
+      ap is_ending (sym two) ∙ (is-end text to h).before,
+    )
+  where
+    slice : List ℕ
+    slice = take to text
+
+    long : length slice ≡ to
+    long = length-take-le to text (omega (arith, inside))
+
+    first : At slice i
+    first = at slice i (omega (arith, size, long))
+
+    second : At slice (i + 1)
+    second = at slice (i + 1) (omega (arith, size, long))
+
+    more : suc i ≡ i + 1
+    more = omega arith
+
+    next : first.rest ≡ second.byte ∷ second.rest
+    next =
+        sym (drop-next i slice first.byte first.rest first.is) ∙ ap (λ (n : ℕ). drop n slice) more ∙ second.is
+
+    none-left : (l : List ℕ) → length l ≡ 0 → l ≡ []
+    none-left [] e = refl
+    none-left (b ∷ l) e = cc
+
+    size-left : suc (length second.rest) ≡ length slice - (i + 1)
+    size-left = sym (ap (λ (l : List ℕ). length l) second.is) ∙ length-drop (i + 1) slice
+
+    none : second.rest ≡ []
+    none = none-left second.rest (omega (arith, size-left, long, size))
+
+    is : drop i slice ≡ first.byte ∷ second.byte ∷ []
+    is =
+        first.is
+        ∙ ap (λ (l : List ℕ). first.byte ∷ l) (next ∙ ap (λ (l : List ℕ). second.byte ∷ l) none)
+
+    low : to - 2 ≡ i
+    low = omega (arith, size)
+
+    high : to - 1 ≡ i + 1
+    high = omega (arith, size)
+
+    one : slice_index text (to - 2) ≡ first.byte
+    one =
+        ap (slice_index text) low ∙ sym (get_or-take to text i 0 (omega (arith, size))) ∙ first.same
+
+    two : slice_index text (to - 1) ≡ second.byte
+    two =
+        ap (slice_index text) high ∙ sym (get_or-take to text (i + 1) 0 (omega (arith, size))) ∙ second.same
+
+    either-false : (x y : Bool) → not (x || y) ≡ true → (x ≡ false) × (y ≡ false)
+    either-false true y e = cc
+    either-false false true e = cc
+    either-false false false e = (refl, refl)
+
+    apart : (is_ending (slice_index text (to - 2)) ≡ false) × (is_white (slice_index text (to - 2)) ≡ false)
+    apart = either-false (is_ending (slice_index text (to - 2))) (is_white (slice_index text (to - 2))) filled
+end-filled text to inside h filled (suc n) i size =
+    go (drop i (take to text)) refl (end-filled text to inside h filled n (i + 1) (omega (arith, size)))
+  where
+    long : length (take to text) ≡ to
+    long = length-take-le to text (omega (arith, inside))
+
+    many : (l : List ℕ) → drop i (take to text) ≡ l → length l ≡ to - i
+    many l e =
+        sym (ap (λ (x : List ℕ). length x) e) ∙ length-drop i (take to text) ∙ ap (λ (x : ℕ). x - i) long
+
+    go : (l : List ℕ) → drop i (take to text) ≡ l → EndFilled (drop (i + 1) (take to text)) → EndFilled l
+    go [] e below = let m = many [] e in absurd (omega (arith, m, size))
+    go (b ∷ []) e below = let m = many (b ∷ []) e in absurd (omega (arith, m, size))
+    go (b ∷ c ∷ []) e below = let m = many (b ∷ c ∷ []) e in absurd (omega (arith, m, size))
+    go (b ∷ c ∷ d ∷ l) e below =
+        let more : i + 1 ≡ suc i = omega arith in
+        subst EndFilled
+        (ap (λ (n : ℕ). drop n (take to text)) more ∙ drop-next i (take to text) b (c ∷ d ∷ l) e) below
+
+pub part-filled : (text : List ℕ) (to : ℕ) (p : Point) → to < length text → is_line_begin text to ≡ true →
+    is_filled_end text to ≡ true → p.index + 2 ≤ to → EndFilled (drop p.index (take to text))
+part-filled text to p inside h filled before =
+    end-filled text to inside h filled (to - p.index - 2) p.index (omega (arith, before))
 
 -- Where the next part begins.
 
@@ -261,10 +349,15 @@ pub record LeadsTo (options : ParseOptions) (text : List ℕ) (to : ℕ) (p next
   pub begins : BeginsPart text next
   pub place : same_place (end_point (take to text)) next ≡ true
 
+-- A text may be cut after these lines: before an empty line that ends a paragraph, or where nothing is open.
+abbrev pub IsCutAt : ParseOptions → List ℕ → ℕ → List TextLine → Type 0
+IsCutAt options text to lines =
+    (IsTextCut options lines × (is_ending (slice_index text to) ≡ true)) ⊎ IsCut options lines
+
 pub leads-to : (options : ParseOptions) (text : List ℕ) (to : ℕ) (p next : Point) → length text < 2 ^ 61 →
-    BeginsPart text p → p.index < to → to < length text → is_part_end text to ≡ true → IsPlaced (take to text) next →
+    BeginsPart text p → p.index < to → to < length text → is_line_begin text to ≡ true → IsPlaced (take to text) next →
     length (take to text) ≤ next.index →
-    IsTextCut options
+    IsCutAt options text to
     (placed_lines p.line p.index (p.column - 1) (full_lines_of (drop p.index (take to text)))) →
     IsBlockList (take to text) (events_from options (take to text) p.line p.index (p.column - 1)) →
     LeadsTo options text to p next
@@ -279,8 +372,7 @@ leads-to options text to p next small begins before inside end at-end past cut b
       ap
       (λ (l : List ℕ). labels (closed options (steps options nothing_open (rests_at (p.column - 1) (lines_of l)))))
       (part-before text to p.index (omega (arith, before)))
-      ∙ labels-cut options p.line p.index (p.column - 1) bytes (drop to text) ends (begins-empty text to inside end)
-      cut
+      ∙ labels-at cut
       ∙ ap (λ (q : Point). both (labels_at options slice p) (labels_at options text q)) (sym same);
   begins = record {
     placed = placed-within text to next small (omega (arith, inside)) (end-whole text to end) at-end;
@@ -324,13 +416,38 @@ leads-to options text to p next small begins before inside end at-end past cut b
         ap₂ (λ (c v : ℕ). let q : Point = record { line = p.line; column = c; index = p.index; vs = v } in q) c
         begins.whole
 
+    lines : List TextLine
+    lines = placed_lines p.line p.index (p.column - 1) (full_lines_of bytes)
+
+    labels-at : IsCutAt options text to lines →
+        labels (closed options (steps options nothing_open (rests_at (p.column - 1) (lines_of (bytes ++ drop to text)))))
+        ≡ both (labels (closed options (steps options nothing_open (rests_at (p.column - 1) (lines_of bytes)))))
+        (labels (closed options (steps options nothing_open (rests_at 0 (lines_of (drop to text))))))
+    labels-at (inl text-cut) =
+        labels-cut options p.line p.index (p.column - 1) bytes (drop to text) ends
+        (begins-empty text to inside text-cut.1) text-cut.0
+    labels-at (inr outside) = labels-after options p.line p.index (p.column - 1) bytes (drop to text) ends outside
+
+    apart : EndsLine bytes (drop (p.index + length bytes) text)
+    apart = subst (λ (i : ℕ). EndsLine bytes (drop i text)) (sym size) ends
+
+    is-both : drop p.index text ≡ bytes ++ drop (p.index + length bytes) text
+    is-both =
+        part-before text to p.index (omega (arith, before))
+        ∙ ap (λ (i : ℕ). bytes ++ drop i text) (sym size)
+
+    after-part : IsCutAt options text to lines →
+        events_from options text p.line p.index (p.column - 1)
+        ≡ list ++ events_from options text (p.line + length (full_lines_of bytes)) (p.index + length bytes) 0
+    after-part (inl text-cut) =
+        reads-on-text options text bytes p.line p.index (p.column - 1) apart
+        (subst (λ (i : ℕ). BeginsEmpty (drop i text)) (sym size) (begins-empty text to inside text-cut.1)) is-both
+        text-cut.0
+    after-part (inr outside) = reads-on options text bytes p.line p.index (p.column - 1) apart is-both outside
+
     all : events_from options text p.line p.index (p.column - 1) ≡ list ++ rest
     all =
-        reads-on-text options text bytes p.line p.index (p.column - 1)
-        (subst (λ (i : ℕ). EndsLine bytes (drop i text)) (sym size) ends)
-        (subst (λ (i : ℕ). BeginsEmpty (drop i text)) (sym size) (begins-empty text to inside end))
-        (part-before text to p.index (omega (arith, before))
-        ∙ ap (λ (i : ℕ). bytes ++ drop i text) (sym size)) cut
+        after-part cut
         ∙ ap (λ (i : ℕ). list ++ events_from options text (p.line + length (full_lines_of bytes)) i 0) size
 
     same : next ≡ begin (p.line + length (full_lines_of bytes)) to 0

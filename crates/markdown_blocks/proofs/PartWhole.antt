@@ -1,5 +1,5 @@
 -- What is known of a part once it was read.
-use Rattle.std.proofs.Common.{◌≡◌, ◌^◌, ◌<◌, ◌≤◌, ◌+◌, ◌-◌, ℕ, cond, false, true, List, [], ◌∷◌, ◌++◌, length, map, take}
+use Rattle.std.proofs.Common.{◌≡◌, ◌⊎◌, inl, inr, ◌^◌, ◌<◌, ◌≤◌, ◌+◌, ◌-◌, ℕ, cond, false, true, List, [], ◌∷◌, ◌++◌, length, map, take, drop}
 use Rattle.std.proofs.Common.{refl, ap, ap₂, sym, ◌∙◌, subst, append-nil, arith}
 use Rattle.std.specs.Prelude.{Some, None}
 use Rattle.std.specs.String.{string_bytes}
@@ -25,24 +25,25 @@ use Rattle.md_events.proofs.PlainTiles.{plain-only}
 use Rattle.md_events.proofs.ReachedLemmas.{events-placed, point-placed}
 use Rattle.md_events.proofs.TextParts.{placed-events}
 use Rattle.md_meaning.specs.Label.{Labels, both}
+use Rattle.md_meaning.specs.Lines.{full_lines_of}
 use Rattle.md_registry.specs.States.{FlowStep}
 use Rattle.proof_container_laws.specs.Footnotes.{footnotes_listed}
 use Rattle.proof_exact_lines.proofs.Front.{begin}
-use Rattle.proof_exact.specs.Parts.{events_from}
+use Rattle.proof_exact.specs.Parts.{events_from, placed_lines}
 use Rattle.proof_rows.specs.WithoutMdx.{IsWithoutMdx}
 use Rattle.proof_rows.proofs.TextAre.{MayBegin}
 use Rattle.markdown_blocks.specs.declared.parts.Part.{Part}
 use Rattle.markdown_blocks.specs.Fed.{flow_begins, line_begins}
 use Rattle.markdown_blocks.specs.FlowReads.{FlowReads}
-use Rattle.markdown_blocks.specs.PartRead.{AreLaid, BeginsPart, HasPart, IsPartRead, MayRead, WaitsInText, events_at}
-use Rattle.markdown_blocks.specs.PartRead.{is_part_end, labels_at, labels_of}
-use Rattle.markdown_blocks.proofs.LineWaits.{text-cut}
+use Rattle.markdown_blocks.specs.PartRead.{AreLaid, BeginsPart, HasPart, IsPartRead, MayEnd, MayRead, events_at}
+use Rattle.markdown_blocks.specs.PartRead.{is_line_begin, labels_at, labels_of}
+use Rattle.markdown_blocks.proofs.LineWaits.{outside-cut, text-cut}
 use Rattle.markdown_blocks.proofs.PartBlocks.{lines-asked, part-blocks, part-covers}
 use Rattle.markdown_blocks.proofs.PartEvents.{flow-events}
 use Rattle.markdown_blocks.proofs.PartLabels.{listed-all, none-first, none-second}
 use Rattle.markdown_blocks.proofs.PartLaid.{covers-to, lined-laid, some-events}
 use Rattle.markdown_blocks.proofs.PartLined.{placed-within}
-use Rattle.markdown_blocks.proofs.PartNext.{LeadsTo, end-whole, leads-to, part-begins, part-ends}
+use Rattle.markdown_blocks.proofs.PartNext.{IsCutAt, LeadsTo, end-whole, leads-to, part-begins, part-ends, part-filled}
 use Rattle.markdown_blocks.proofs.TextBlocks.{footnotes-from, labels-from, resolved-are}
 
 -- The text parts of a block list are read as lines just where they are read as the plain layer reads them.
@@ -130,7 +131,7 @@ last-read options text p part reads read = record {
 
 -- One that was read to a place where the next begins is before that.
 cut-part : (options : ParseOptions) (text : List ℕ) (to : ℕ) (p next : Point) (part : Part) → length text < 2 ^ 61 →
-    p.index < to → to < length text → is_part_end text to ≡ true → MayRead options text p → LeadsTo options text to p next →
+    p.index < to → to < length text → is_line_begin text to ≡ true → MayRead options text p → LeadsTo options text to p next →
     IsPartRead options (take to text) p part →
     HasPart options text p part (Some next) × MayRead options text next
 cut-part options text to p next part small before inside end reads leads read = (
@@ -182,18 +183,17 @@ cut-part options text to p next part small before inside end reads leads read = 
         (All-head (λ (e : Event). IsPlaced slice e.point) e es placed))
         (all-within es (All-tail (λ (e : Event). IsPlaced slice e.point) e es placed))
 
--- Where flow waits for a line in a text, the next part begins.
+-- Where flow waits for a line, and a part may end, the next part begins.
 pub cut-read : (options : ParseOptions) (text : List ℕ) (to : ℕ) (p : Point) (state : State) (at : World) →
     IsWithoutMdx options → length text < 2 ^ 61 → MayRead options text p → p.index < to → to < length text →
-    is_part_end text to ≡ true → Runs FlowStep false line_begins (flow_begins (take to text) options p) state at →
-    IsStopped false state at → at.setting ≡ (flow_begins (take to text) options p).setting → WaitsInText state at →
+    is_line_begin text to ≡ true → Runs FlowStep false line_begins (flow_begins (take to text) options p) state at →
+    IsStopped false state at → at.setting ≡ (flow_begins (take to text) options p).setting → MayEnd text p to state at →
     IsPlaced (take to text) at.point → (part : Part) → IsPartRead options (take to text) p part →
     HasPart options text p part (Some at.point) × MayRead options text at.point
 cut-read options text to p state at built small reads before inside end run stops set waits placed part read =
     cut-part options text to p at.point part small before inside end reads
     (leads-to options text to p at.point small begins before inside end placed past
-    (text-cut options (take to text) p built sized (part-begins text to p inside end before begins)
-    (part-ends text to p inside end before) state at run waits past) read.list)
+    (cut waits) read.list)
     read
   where
     begins : BeginsPart text p
@@ -207,6 +207,25 @@ cut-read options text to p state at built small reads before inside end run stop
 
     past : length (take to text) ≤ at.point.index
     past =
-        let stopped = subst (λ (t : State). IsStopped false t at) waits.at stops in
+        let stopped = subst (λ (t : State). IsStopped false t at) (waits-at waits) stops in
         let limit : at.setting.limit ≡ length (take to text) = ap (λ (x : Setting). x.limit) set in
         omega (arith, stopped.1, limit)
+      where
+        waits-at : MayEnd text p to state at → state ≡ line_begins
+        waits-at (inl in-text) = in-text.0.at
+        waits-at (inr outside) = outside.0.at
+
+    cut : MayEnd text p to state at →
+        IsCutAt options text to
+        (placed_lines p.line p.index (p.column - 1) (full_lines_of (drop p.index (take to text))))
+    cut (inl in-text) =
+        inl (
+          text-cut options (take to text) p built sized (part-begins text to p inside end before begins)
+              (part-ends text to p inside end before) state at run in-text.0 past,
+          in-text.1,
+        )
+    cut (inr outside) =
+        inr
+        (outside-cut options (take to text) p built sized (part-begins text to p inside end before begins)
+        (part-ends text to p inside end before) state at run outside.0 past
+        (part-filled text to p inside end outside.2 outside.1))

@@ -1,7 +1,7 @@
 -- A part of a text: where it may begin, where it may end, and that the text has what is in it, and then what it has from
 -- there on.
-use Rattle.std.specs.Prelude.{◌≡◌, ℕ, ◌-◌, ◌<◌, ◌≤◌, Bool, true, false, ◌&&◌, not, if◌then◌else◌, IsTrue, List, []}
-use Rattle.std.specs.Prelude.{◌++◌, Option, Some, None, drop, length, map, nat_lt, slice_index}
+use Rattle.std.specs.Prelude.{◌≡◌, ◌⊎◌, ℕ, ◌+◌, ◌-◌, ◌<◌, ◌≤◌, Bool, true, false, ◌&&◌, ◌||◌, not, if◌then◌else◌}
+use Rattle.std.specs.Prelude.{IsTrue, List, [], ◌++◌, Option, Some, None, drop, length, map, nat_lt, slice_index}
 use Rattle.std.specs.String.{string_bytes}
 use Rattle.md_engine.specs.declared.configuration.ParseOptions.{ParseOptions}
 use Rattle.md_engine.specs.declared.event.Event.{Event}
@@ -22,6 +22,7 @@ use Rattle.md_meaning.specs.Label.{Labels, both, labels, no_labels}
 use Rattle.md_meaning.specs.Lines.{lines_of}
 use Rattle.md_meaning.specs.Meaning.{tree}
 use Rattle.md_meaning.specs.Preamble.{rests_at}
+use Rattle.md_meaning.specs.Rest.{is_white}
 use Rattle.md_meaning.specs.State.{closed}
 use Rattle.md_meaning.specs.Step.{steps}
 use Rattle.md_meaning.specs.Tree.{Blocks}
@@ -36,10 +37,13 @@ pub record BeginsPart (text : List ℕ) (p : Point) : Type 0 where
   pub whole : p.vs ≡ 0
   pub column : 1 ≤ p.column
 
--- whether an empty line begins at this byte, after another line
-abbrev pub is_part_end : List ℕ → ℕ → Bool
-is_part_end text at =
-    is_ending (slice_index text (at - 1)) && is_ending (slice_index text at) && not (is_pair text (at - 1))
+-- whether a line begins at this byte, after another line
+abbrev pub is_line_begin : List ℕ → ℕ → Bool
+is_line_begin text at = is_ending (slice_index text (at - 1)) && not (is_pair text (at - 1))
+
+-- whether the byte before the ending of one byte that is before this place is no space, no tab and of no line ending
+abbrev pub is_filled_end : List ℕ → ℕ → Bool
+is_filled_end text at = not (is_ending (slice_index text (at - 2)) || is_white (slice_index text (at - 2)))
 
 -- flow waits for a line, in no container, where a text is open
 pub record WaitsInText (state : State) (w : World) : Type 0 where
@@ -48,6 +52,20 @@ pub record WaitsInText (state : State) (w : World) : Type 0 where
   pub containers : w.flags.containers ≡ []
   pub held : OpenText
   pub leaf : w.flags.leaf ≡ held_leaf.Text held
+
+-- flow waits for a line where nothing is open
+pub record WaitsOutside (state : State) (w : World) : Type 0 where
+  pub at : state ≡ line_begins
+  pub frames : w.frames ≡ []
+  pub containers : w.flags.containers ≡ []
+  pub leaf : w.flags.leaf ≡ held_leaf.None
+
+-- Where flow waits after the lines from a point to this place, a part may end: a text is open and the next line is
+-- empty, so that it ends the text; or nothing is open and the last line is not blank, so that the last block is no item.
+abbrev pub MayEnd : List ℕ → Point → ℕ → State → World → Type 0
+MayEnd text p to state w =
+    (WaitsInText state w × (is_ending (slice_index text to) ≡ true))
+    ⊎ (WaitsOutside state w × (p.index + 2 ≤ to) × (is_filled_end text to ≡ true))
 
 -- What a text has from a point on, where a line begins and nothing is open.
 

@@ -1,16 +1,17 @@
 // A text that is read part by part, so that memory follows its largest part and not the text.
 //
-// A part is whole blocks. It ends where the text does, or before an empty line where a paragraph is open and no
-// container is. That line ends the paragraph, as the end of a text does, and nothing after it changes what is before
-// it: so each part is read as a text that ends there, and the events of the parts, one after the other, are those of
-// the text, and so are the labels. An item is never last in a part that is followed by another, since the next item
-// might be one of its list.
+// A part is whole blocks. It ends where the text does; or before an empty line where a paragraph is open and no
+// container is, since that line ends the paragraph, as the end of a text does; or after a line that is not blank where
+// nothing is open, as after a heading. Nothing after such a place changes what is before it: so each part is read as a
+// text that ends there, and the events of the parts, one after the other, are those of the text, and so are the labels.
+// An item is never last in a part that is followed by another, since the next item might be one of its list: a line that
+// is not blank closes the item or is in it.
 //
-// Where a part ends is tried at an empty line after a line that looks like the last of a paragraph. Where it does not end
-// there it is read again, up to such a line that is four times as far, or to the end of the text. A text that has no such
-// line is one part.
+// Where a part ends is tried at an empty line after a line that looks like the last of a paragraph, and a little later
+// also after one that looks like the last of another block. Where it does not end there it is read again, up to such a
+// line that is four times as far, or to the end of the text. A text that has no such line is one part.
 
-ghost use Rattle.std.specs.Prelude.{◌≡◌, ◌≤◌, ◌<◌, ◌++◌, IfErr, IfNone, IfOk, IfSome, List, Some, None, [], length, true};
+ghost use Rattle.std.specs.Prelude.{◌≡◌, ◌≤◌, ◌<◌, ◌+◌, ◌++◌, IfErr, IfNone, IfOk, IfSome, List, Some, None, [], length, true};
 ghost use Rattle.std.specs.Prelude.{false};
 ghost use Rattle.std.specs.Option.{ForSome};
 ghost use Rattle.md_engine.specs.declared.event.Event.{Event};
@@ -32,8 +33,9 @@ ghost use Rattle.md_registry.specs.States.{FlowStep, flow_table_scheme};
 ghost use Rattle.markdown_blocks.specs.Fed.{flow_begins, line_begins};
 ghost use Rattle.markdown_blocks.specs.FlowReads.{FlowReads};
 ghost use Rattle.markdown_blocks.specs.Parsed.{IsParsed, IsSmall, IsWithoutMdx};
-ghost use Rattle.markdown_blocks.specs.PartRead.{AreAhead, AreLaid, BeginsPart, HasPart, IsPartRead, MayRead};
-ghost use Rattle.markdown_blocks.specs.PartRead.{WaitsInText, is_part_end, labels_of, point_in};
+ghost use Rattle.markdown_blocks.specs.PartRead.{AreAhead, AreLaid, BeginsPart, HasPart, IsPartRead, MayEnd};
+ghost use Rattle.markdown_blocks.specs.PartRead.{MayRead, WaitsInText, WaitsOutside, is_filled_end, is_line_begin};
+ghost use Rattle.markdown_blocks.specs.PartRead.{labels_of, point_in};
 
 use crate::parser::{footnotes_of, read_content, read_front, resolve_blocks, until_changed};
 use md_at_once::table::FlowTable;
@@ -51,11 +53,16 @@ use md_events::inline::Chunk;
 use md_events::plain;
 use md_events::subtokenize::{Reader, subtokenize};
 use md_scan::ahead::begins_with;
+use md_scan::bytes::is_white;
 use std::alloc::Global;
 use std::mem;
 
 /// How many bytes a part has at least, if the text has as many.
 const LEAST: usize = 64 * 1024;
+
+/// For so many bytes more a part is tried to end after a paragraph alone: few other lines show by themselves that they
+/// are the last of a block.
+const FAR: usize = 4096;
 
 /// Some whole blocks of a text, or its front: its byte order mark and its frontmatter.
 #[derive(Drop)]
@@ -129,15 +136,24 @@ fn is_ending(byte: u8) -> bool
     byte == b'\n' || byte == b'\r'
 }
 
-/// Whether an empty line begins here, after another line.
-fn is_part_end(text: &[u8], at: usize) -> bool
+/// Whether a line begins here, after another line.
+fn is_line_begin(text: &[u8], at: usize) -> bool
     requires after { 0 < at }
     requires within { at < length text.now }
-    ensures { result ≡ is_part_end text.now at }
+    ensures { result ≡ is_line_begin text.now at }
 {
     let before = text[at - 1];
-    let here = text[at];
-    is_ending(before) && is_ending(here) && !(before == b'\r' && here == b'\n')
+    is_ending(before) && !(before == b'\r' && text[at] == b'\n')
+}
+
+/// Whether the byte before an ending of one byte, after which this is, is no space, no tab and of no line ending.
+fn is_filled_end(text: &[u8], at: usize) -> bool
+    requires after { 2 ≤ at }
+    requires within { at < length text.now }
+    ensures { result ≡ is_filled_end text.now at }
+{
+    let before = text[at - 2];
+    !(is_ending(before) || is_white(before))
 }
 
 /// Where the ending begins of the line that has the byte at `from`; or the end of the text.
@@ -198,6 +214,15 @@ fn may_end_text(line: &[u8]) -> bool
             || matches!(last, b'.' | b':' | b'!' | b'?'))
 }
 
+/// Whether a line looks like the last of a leaf block that is no text: a heading, or the end of fenced code or of a
+/// comment. What it is, flow says.
+fn may_end_leaf(line: &[u8]) -> bool {
+    matches!(
+        line,
+        [b'#', ..] | [b'`', b'`', b'`'] | [b'~', b'~', b'~'] | [.., b'-', b'-', b'>']
+    )
+}
+
 /// The first byte from `from` on that is of no line ending, or the end of the text.
 fn after_endings(text: &[u8], from: usize) -> usize
     requires { from ≤ length text.now }
@@ -212,18 +237,19 @@ fn after_endings(text: &[u8], from: usize) -> usize
 }
 
 /// The first place, at least so many bytes after `from`, where an empty line begins after a line that may end a
-/// paragraph; or the end of the text.
+/// paragraph, or, further on, a line after one that may end another leaf block; or the end of the text.
 fn part_end(text: &[u8], from: usize, least: usize) -> usize
     requires inside { from < length text.now }
     requires some { 0 < least }
     ensures after { from < result }
     ensures within { result ≤ length text.now }
-    ensures end { result < length text.now → is_part_end text.now result ≡ true }
+    ensures begins { result < length text.now → is_line_begin text.now result ≡ true }
 {
     let last = from.saturating_add(least - 1).min(text.len() - 1);
     if line_end(text, last) == text.len() {
         return text.len();
     }
+    let far = last.saturating_add(FAR);
     let mut begin = line_begin(text, from, last);
     while begin < text.len() {
         let end = line_end(text, begin);
@@ -231,8 +257,12 @@ fn part_end(text: &[u8], from: usize, least: usize) -> usize
             return end;
         }
         let to = next_line(text, end);
-        if to < text.len() && is_part_end(text, to) && may_end_text(&text[begin..end]) {
-            return to;
+        if to < text.len() && is_line_begin(text, to) {
+            let line = &text[begin..end];
+            let ends_text = is_ending(text[to]) && may_end_text(line);
+            if ends_text || begin >= far && is_after_line(text, begin, to) && may_end_leaf(line) {
+                return to;
+            }
         }
         begin = after_endings(text, to);
     }
@@ -248,6 +278,45 @@ fn waits_in_text(tokenizer: &Tokenizer, state: State) -> bool
     };
     let in_text = matches!(tokenizer.flags.leaf, HeldLeaf::Text(_));
     in_text && tokenizer.frames.is_empty() && tokenizer.containers.is_empty()
+}
+
+/// Whether flow waits for a line where nothing is open.
+fn waits_outside(tokenizer: &Tokenizer, state: State) -> bool
+    ensures { result ≡ true → WaitsOutside state (world tokenizer.now) }
+{
+    let State::Next(StateName::Document(DocumentState::ContainerExistingBefore)) = state else {
+        return false;
+    };
+    let is_closed = matches!(tokenizer.flags.leaf, HeldLeaf::None);
+    is_closed && tokenizer.frames.is_empty() && tokenizer.containers.is_empty()
+}
+
+/// Whether a line that is not blank ends before this place, with an ending of one byte, and the byte before that ending
+/// is in what begins at `from`.
+fn is_after_line(text: &[u8], from: usize, to: usize) -> bool
+    requires within { to < length text.now }
+    ensures more { result ≡ true → from + 2 ≤ to }
+    ensures filled { result ≡ true → is_filled_end text.now to ≡ true }
+{
+    if to < 2 || to - 2 < from {
+        return false;
+    }
+    is_filled_end(text, to)
+}
+
+/// Whether a part may end where flow waits, which has read it from its begin to this place: before an empty line in a
+/// text, or after a line that is not blank where nothing is open.
+fn may_end(text: &[u8], start: Point, to: usize, tokenizer: &Tokenizer, state: State) -> bool
+    requires within { to < length text.now }
+    ensures { result ≡ true → MayEnd text.now start to state (world tokenizer.now) }
+{
+    if waits_in_text(tokenizer, state) {
+        return is_ending(text[to]);
+    }
+    if !is_after_line(text, start.index, to) {
+        return false;
+    }
+    waits_outside(tokenizer, state)
 }
 
 /// A tokenizer at a point, whose list of events is one that is lent.
@@ -357,7 +426,7 @@ fn part_of<'a>(
     })
 }
 
-/// Reads a part from a point to an empty line, if it may end there. Returns where the next part begins, too. A list of
+/// Reads a part from a point to the begin of a line, if it may end there. Returns where the next part begins, too. A list of
 /// events that is lent is left where the part may not end there.
 ///
 /// An `Err` says that memory ran out.
@@ -374,14 +443,14 @@ fn read_cut(
     requires may { MayRead options.now text.now start }
     requires some { start.index < to }
     requires within { to < length text.now }
-    requires end { is_part_end text.now to ≡ true }
+    requires begins { is_line_begin text.now to ≡ true }
     ensures part { IfOk result
         (λ read. IfSome read (λ read. HasPart options.now text.now start read.0 (Some read.1))) }
     ensures next { IfOk result (λ read. IfSome read (λ read. MayRead options.now text.now read.1)) }
 {
     let bytes = &text[..to];
     let (tokenizer, state) = push_lines(alloc, bytes, options, start, lent)?;
-    if !waits_in_text(&tokenizer, state) {
+    if !may_end(text, start, to, &tokenizer, state) {
         *lent = tokenizer.events;
         return Ok(None);
     }

@@ -55,7 +55,7 @@ fn check(rt: &impl Abort, alloc: Global, text: &str, want: &[usize]) {
 }
 
 // So many times the same text, after another.
-fn repeated(alloc: Global, first: &str, part: &str, count: usize) -> Result<String, Message> {
+pub fn repeated(alloc: Global, first: &str, part: &str, count: usize) -> Result<String, Message> {
     let mut all = String::from_str(alloc, first)?;
     for _ in 0..count {
         all.push_str(part)?;

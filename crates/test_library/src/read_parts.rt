@@ -1,6 +1,7 @@
 // A text that is read part by part has the events of its parse, one part after the other, and its labels.
 ghost use Rattle.markdown_blocks.specs.Parsed.{IsSmall, IsWithoutMdx};
 
+use crate::parts::repeated;
 use markdown_blocks::configuration::ParseOptions;
 use markdown_blocks::message::Message;
 use markdown_blocks::parser::{Part, Parts, parse};
@@ -114,6 +115,45 @@ fn no_part_ends_in_a_block_or_after_an_item(rt: HostRuntime) {
         1,
         3,
     );
+}
+
+// Where no paragraph ends, a part has 4,096 bytes more at least, and then ends after the next heading, fence or comment.
+#[test]
+fn a_part_ends_after_another_leaf(rt: HostRuntime) -> Result<(), Message> {
+    let alloc = rt.alloc();
+    check(&rt, alloc, &repeated(alloc, "", "# a\n", 2_000)?, 1, 2);
+    check(
+        &rt,
+        alloc,
+        &repeated(alloc, "", "```\na\n```\n\n", 1_000)?,
+        1,
+        3,
+    );
+    check(
+        &rt,
+        alloc,
+        &repeated(alloc, "", "<!-- a -->\n", 1_000)?,
+        1,
+        3,
+    );
+    Ok(())
+}
+
+// So it does not in a fence or in an item, where a space is last, or before CR LF.
+#[test]
+fn no_part_ends_after_what_only_looks_so(rt: HostRuntime) -> Result<(), Message> {
+    let alloc = rt.alloc();
+    check(&rt, alloc, &repeated(alloc, "~~~\n", "# a\n", 2_000)?, 1, 1);
+    check(
+        &rt,
+        alloc,
+        &repeated(alloc, "- a\n\n", "  <!-- b -->\n", 1_000)?,
+        1,
+        1,
+    );
+    check(&rt, alloc, &repeated(alloc, "", "# a \n", 2_000)?, 1, 1);
+    check(&rt, alloc, &repeated(alloc, "", "# a\r\n", 2_000)?, 1, 1);
+    Ok(())
 }
 
 #[test]
