@@ -1,7 +1,7 @@
--- The last of some lines is not blank, where the byte before its ending is no space and no tab. Where no container is open
--- after it, it is no blank line of the exact list.
-use Rattle.std.proofs.Common.{◌≡◌, ◌<◌, ◌≤◌, ◌+◌, ◌-◌, ℕ, zero, suc, Bool, true, false, cond, not, ◌&&◌, ◌||◌, List, []}
-use Rattle.std.proofs.Common.{◌∷◌, ◌++◌, length, take, drop, map, refl, ap, ap₂, sym, ◌∙◌, subst, arith}
+-- The last of some lines is not blank, where the byte before its ending is no space and no tab. Where no container is
+-- open after it, it is no blank line of the exact list, and where nothing is, a text may be cut after it.
+use Rattle.std.proofs.Common.{◌≡◌, ◌+◌, ℕ, Bool, true, false, cond, not, ◌&&◌, ◌||◌, List, [], ◌∷◌, ◌++◌, length}
+use Rattle.std.proofs.Common.{map, refl, ap, sym, ◌∙◌, subst, arith}
 use Rattle.std.specs.Prelude.{◌==◌, Option, Some, None, nat_lt}
 use Rattle.std.specs.Option.{is_some}
 use Rattle.std.specs.List.{onto_first}
@@ -18,7 +18,7 @@ use Rattle.md_meaning.specs.Step.{steps, with_lazy}
 use Rattle.md_meaning.specs.Tree.{End}
 use Rattle.md_exact.specs.Places.{TextLine, line_at, whole}
 use Rattle.md_exact.specs.Prefixes.{containers, following_all}
-use Rattle.md_exact.specs.Rows.{AfterCode, Blank, Delimiter, First, FirstText, Further, FurtherText, Head, Role, Row}
+use Rattle.md_exact.specs.Rows.{AfterCode, Blank, Delimiter, First, FirstText, Further, FurtherText, Head, Role}
 use Rattle.md_exact.specs.Rows.{Underline, first_or, fresh_role, is_blank_role, role_before, role_on, row_of}
 use Rattle.proof_exact_lines.specs.Last.{HasLine}
 use Rattle.proof_exact_lines.proofs.ExactListed.{by-new}

@@ -420,7 +420,8 @@ leads-to options text to p next small begins before inside end at-end past cut b
     lines = placed_lines p.line p.index (p.column - 1) (full_lines_of bytes)
 
     labels-at : IsCutAt options text to lines →
-        labels (closed options (steps options nothing_open (rests_at (p.column - 1) (lines_of (bytes ++ drop to text)))))
+        labels
+        (closed options (steps options nothing_open (rests_at (p.column - 1) (lines_of (bytes ++ drop to text)))))
         ≡ both (labels (closed options (steps options nothing_open (rests_at (p.column - 1) (lines_of bytes)))))
         (labels (closed options (steps options nothing_open (rests_at 0 (lines_of (drop to text))))))
     labels-at (inl text-cut) =

@@ -1,5 +1,6 @@
 -- What is known of a part once it was read.
-use Rattle.std.proofs.Common.{◌≡◌, ◌⊎◌, inl, inr, ◌^◌, ◌<◌, ◌≤◌, ◌+◌, ◌-◌, ℕ, cond, false, true, List, [], ◌∷◌, ◌++◌, length, map, take, drop}
+use Rattle.std.proofs.Common.{◌≡◌, inl, inr, ◌^◌, ◌<◌, ◌≤◌, ◌+◌, ◌-◌, ℕ, cond, false, true, List, [], ◌∷◌}
+use Rattle.std.proofs.Common.{◌++◌, length, map, take, drop}
 use Rattle.std.proofs.Common.{refl, ap, ap₂, sym, ◌∙◌, subst, append-nil, arith}
 use Rattle.std.specs.Prelude.{Some, None}
 use Rattle.std.specs.String.{string_bytes}
@@ -131,7 +132,8 @@ last-read options text p part reads read = record {
 
 -- One that was read to a place where the next begins is before that.
 cut-part : (options : ParseOptions) (text : List ℕ) (to : ℕ) (p next : Point) (part : Part) → length text < 2 ^ 61 →
-    p.index < to → to < length text → is_line_begin text to ≡ true → MayRead options text p → LeadsTo options text to p next →
+    p.index < to → to < length text → is_line_begin text to ≡ true → MayRead options text p →
+    LeadsTo options text to p next →
     IsPartRead options (take to text) p part →
     HasPart options text p part (Some next) × MayRead options text next
 cut-part options text to p next part small before inside end reads leads read = (

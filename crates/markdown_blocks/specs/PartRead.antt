@@ -1,5 +1,5 @@
--- A part of a text: where it may begin, where it may end, and that the text has what is in it, and then what it has from
--- there on.
+-- A part of a text: where it may begin, where it may end, and that the text has what is in it, and then what it has
+-- from there on.
 use Rattle.std.specs.Prelude.{◌≡◌, ◌⊎◌, ℕ, ◌+◌, ◌-◌, ◌<◌, ◌≤◌, Bool, true, false, ◌&&◌, ◌||◌, not, if◌then◌else◌}
 use Rattle.std.specs.Prelude.{IsTrue, List, [], ◌++◌, Option, Some, None, drop, length, map, nat_lt, slice_index}
 use Rattle.std.specs.String.{string_bytes}
@@ -61,7 +61,7 @@ pub record WaitsOutside (state : State) (w : World) : Type 0 where
   pub leaf : w.flags.leaf ≡ held_leaf.None
 
 -- Where flow waits after the lines from a point to this place, a part may end: a text is open and the next line is
--- empty, so that it ends the text; or nothing is open and the last line is not blank, so that the last block is no item.
+-- empty, so that it ends the text; or nothing is open and the last line is not blank, so that no item is last.
 abbrev pub MayEnd : List ℕ → Point → ℕ → State → World → Type 0
 MayEnd text p to state w =
     (WaitsInText state w × (is_ending (slice_index text to) ≡ true))

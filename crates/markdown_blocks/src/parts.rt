@@ -4,15 +4,15 @@
 // container is, since that line ends the paragraph, as the end of a text does; or after a line that is not blank where
 // nothing is open, as after a heading. Nothing after such a place changes what is before it: so each part is read as a
 // text that ends there, and the events of the parts, one after the other, are those of the text, and so are the labels.
-// An item is never last in a part that is followed by another, since the next item might be one of its list: a line that
-// is not blank closes the item or is in it.
+// An item is never last in a part that is followed by another, since the next item might be one of its list: a line
+// that is not blank closes the item or is in it.
 //
 // Where a part ends is tried at an empty line after a line that looks like the last of a paragraph, and a little later
 // also after one that looks like the last of another block. Where it does not end there it is read again, up to such a
 // line that is four times as far, or to the end of the text. A text that has no such line is one part.
 
-ghost use Rattle.std.specs.Prelude.{◌≡◌, ◌≤◌, ◌<◌, ◌+◌, ◌++◌, IfErr, IfNone, IfOk, IfSome, List, Some, None, [], length, true};
-ghost use Rattle.std.specs.Prelude.{false};
+ghost use Rattle.std.specs.Prelude.{◌≡◌, ◌≤◌, ◌<◌, ◌+◌, ◌++◌, IfErr, IfNone, IfOk, IfSome, List, Some, None, []};
+ghost use Rattle.std.specs.Prelude.{length, true, false};
 ghost use Rattle.std.specs.Option.{ForSome};
 ghost use Rattle.md_engine.specs.declared.event.Event.{Event};
 ghost use Rattle.md_engine.specs.declared.parse_state.ParseState.{ParseState};
@@ -426,8 +426,8 @@ fn part_of<'a>(
     })
 }
 
-/// Reads a part from a point to the begin of a line, if it may end there. Returns where the next part begins, too. A list of
-/// events that is lent is left where the part may not end there.
+/// Reads a part from a point to the begin of a line, if it may end there. Returns where the next part begins, too. A
+/// list of events that is lent is left where the part may not end there.
 ///
 /// An `Err` says that memory ran out.
 fn read_cut(

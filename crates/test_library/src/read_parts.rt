@@ -117,7 +117,7 @@ fn no_part_ends_in_a_block_or_after_an_item(rt: HostRuntime) {
     );
 }
 
-// Where no paragraph ends, a part has 4,096 bytes more at least, and then ends after the next heading, fence or comment.
+// Where no paragraph ends, a part has 4,096 bytes more, and then ends after the next heading, fence or comment.
 #[test]
 fn a_part_ends_after_another_leaf(rt: HostRuntime) -> Result<(), Message> {
     let alloc = rt.alloc();
