@@ -1,6 +1,6 @@
 -- The tokens of a text.
-use Rattle.std.proofs.Common.{◌≡◌, ℕ, ◌+◌, ◌≤◌, Bool, true, false, cond, List, [], length, take, drop}
-use Rattle.std.proofs.Common.{ap, sym, ◌∙◌, subst, arith}
+use Rattle.std.proofs.Common.{◌≡◌, ℕ, ◌+◌, ◌≤◌, Bool, true, false, cond, ◌&&◌, List, [], length, take, drop}
+use Rattle.std.proofs.Common.{refl, ap, sym, ◌∙◌, subst, arith}
 use Rattle.std.proofs.lemmas.List.{length-drop}
 use Rattle.md_inline_events.specs.Forest.{Forest, has_names, size}
 use Rattle.md_inline_events.specs.Tokens.{tokens}
@@ -16,9 +16,11 @@ use Rattle.proof_inlines.proofs.ContentLemmas.{text-over}
 use Rattle.proof_inlines.proofs.Promise.{atom-front}
 use Rattle.proof_inlines.proofs.TargetLemmas.{target-leads}
 use Rattle.markdown_inlines.specs.declared.span.Span.{Span}
+use Rattle.markdown_inlines.specs.Addressed.{has_at_sign}
 use Rattle.markdown_inlines.specs.Filled.{Shows}
 use Rattle.markdown_inlines.specs.Readable.{is_readable}
 use Rattle.markdown_inlines.specs.Reading.{level_at}
+use Rattle.markdown_inlines.proofs.AtSignLemmas.{no-addresses}
 use Rattle.markdown_inlines.proofs.ReadableLemmas.{merged-again}
 use Rattle.markdown_inlines.proofs.ReadableLevels.{level-readable}
 use Rattle.markdown_inlines.proofs.ShapeLemmas.{shows-merged}
@@ -53,7 +55,7 @@ module _ (options : InlineOptions) (is_definition is_footnote : List ℕ → Boo
     sized = omega (arith, level-over.sized, length-drop start text, h);
   }
 
-  -- where addresses are searched, and where not
+  -- where addresses are searched, and where none is
   pub searched-tokens : options.constructs.gfm_autolink_literal ≡ true → (made : List Token) →
       made ≡ tokens (merged (with_emails (take start text) (drop start text) (merged level_read))) →
       made ≡ tokens (forest_after options is_definition is_footnote (take start text) (drop start text))
@@ -63,14 +65,19 @@ module _ (options : InlineOptions) (is_definition is_footnote : List ℕ → Boo
       (cond b (merged (with_emails (take start text) (drop start text) (merged level_read))) (merged level_read)))
       (sym on)
 
-  pub plain-tokens : options.constructs.gfm_autolink_literal ≡ false → (made : List Token) →
-      made ≡ tokens (merged level_read) →
+  pub plain-tokens : (options.constructs.gfm_autolink_literal && has_at_sign (drop start text)) ≡ false →
+      (made : List Token) → made ≡ tokens (merged level_read) →
       made ≡ tokens (forest_after options is_definition is_footnote (take start text) (drop start text))
-  plain-tokens off made h =
-      h
-      ∙ ap (λ (b : Bool). tokens
-      (cond b (merged (with_emails (take start text) (drop start text) (merged level_read))) (merged level_read)))
-      (sym off)
+  plain-tokens off made h = h ∙ ap tokens (go options.constructs.gfm_autolink_literal off)
+    where
+      go : (on : Bool) → (on && has_at_sign (drop start text)) ≡ false →
+          merged level_read ≡
+          cond on (merged (with_emails (take start text) (drop start text) (merged level_read))) (merged level_read)
+      go false off = refl
+      go true off =
+          sym
+          (no-addresses (merged level_read) (take start text) (drop start text) off (omega (arith, level-over.sized))
+          ∙ merged-again level_read)
 
   -- and its spans, as they are given on
   pub whole-shows : (items given : List Span) → given ≡ items → Shows start [] level_read items →

@@ -39,7 +39,7 @@ size-none (part name inside following) h =
 
 -- Text beside text is one piece.
 
-data-name : (name : Name) → is_data name ≡ true → name ≡ n.Data
+pub data-name : (name : Name) → is_data name ≡ true → name ≡ n.Data
 data-name n.Data h = refl
 data-name other h = cc
 
@@ -49,7 +49,7 @@ joined-other name more nothing h = refl
 joined-other name more (part other inside following) h = refl
 joined-other name more (piece other count following) h = simp h refl
 
-joined-joined : (name other : Name) (more count : ℕ) (forest : Forest) → is_data name ≡ true → is_data other ≡ true →
+pub joined-joined : (name other : Name) (more count : ℕ) (forest : Forest) → is_data name ≡ true → is_data other ≡ true →
     joined name more (joined other count forest) ≡ joined name (more + suc count) forest
 joined-joined name other more count nothing h k = simp (h, k) refl
 joined-joined name other more count (part third inside following) h k = simp (h, k) refl

@@ -20,6 +20,7 @@ pub mod ReadableAtoms
 pub mod ReadableLevels
 pub mod JoinedLemmas
 pub mod AddressedLemmas
+pub mod AtSignLemmas
 pub mod QuietLemmas
 pub mod AddedLemmas
 pub mod PlaceLemmas
@@ -28,6 +29,7 @@ pub mod LayerLemmas
 pub mod LabelLemmas
 pub mod OwnLemmas
 pub mod PlainLemmas
+pub mod InnerLemmas
 pub mod EndLemmas
 pub mod PassLemmas
 pub mod ContentTokens

@@ -1,17 +1,22 @@
 -- E-mail addresses in the text of tokens, and text beside text as one token. What is open is counted, so that nothing
 -- is as deep as the text is.
-use Rattle.std.specs.Prelude.{ℕ, zero, suc, ◌+◌, ◌-◌, Bool, false, ◌&&◌, nat_le, if◌then◌else◌, List, [], ◌∷◌, ◌++◌}
+use Rattle.std.specs.Prelude.{ℕ, zero, suc, ◌+◌, ◌-◌, Bool, false, ◌&&◌, ◌==◌, nat_le, if◌then◌else◌, List, [], ◌∷◌, ◌++◌}
 use Rattle.std.specs.Prelude.{take, drop, Option, Some, None}
-use Rattle.std.specs.List.{prefix_len}
+use Rattle.std.specs.List.{list_any, prefix_len}
 use Rattle.md_engine.specs.declared.event.Name.{Name}
 use Rattle.md_engine.specs.declared.event.Name.TheVariants as n
 use Rattle.md_inline_events.specs.Tokens.{tokens}
 use Rattle.md_inline_events.specs.declared.token.Token.{Token}
 use Rattle.md_inline_events.specs.declared.token.Token.TheVariants as t
 use Rattle.md_inlines.specs.Atoms.{is_data, literal_name}
+use Rattle.md_inlines.specs.Autolink.{at_sign}
 use Rattle.md_inlines.specs.Emails.{emails_in, holds_text}
 use Rattle.md_inlines.specs.Literal.{email_at, is_local_byte, may_follow}
 use Rattle.md_inlines.specs.declared.Literal.{Literal}
+
+-- whether an `@` is among these bytes
+abbrev pub has_at_sign : List ℕ → Bool
+has_at_sign text = list_any (λ (b : ℕ). b == at_sign) text
 
 -- how many bytes of text a token is; none of another
 abbrev pub data_len_of : Name → ℕ → Option ℕ

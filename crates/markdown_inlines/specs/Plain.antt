@@ -1,6 +1,7 @@
 -- Bytes that begin nothing.
-use Rattle.std.specs.Prelude.{ℕ, Bool, false, ◌&&◌, ◌==◌, not, List, [], ◌∷◌, codes}
+use Rattle.std.specs.Prelude.{ℕ, ◌+◌, Bool, false, ◌&&◌, ◌==◌, not, if◌then◌else◌, List, [], ◌∷◌, codes}
 use Rattle.std.specs.List.{list_any}
+use Rattle.md_meaning.specs.Ascii.{line_feed}
 use Rattle.md_inlines.specs.Breaks.{trailing_len}
 
 -- Whether nothing but trailing whitespace begins with a byte. `literals` says whether addresses without angle brackets
@@ -8,6 +9,16 @@ use Rattle.md_inlines.specs.Breaks.{trailing_len}
 abbrev pub is_plain : Bool → ℕ → Bool
 is_plain literals b =
     not (list_any (λ c. c == b) (codes "!$&*<[\\]_`~")) && not (literals && list_any (λ c. c == b) (codes "HWhw"))
+
+-- whether it is one and ends no line
+abbrev pub is_inner : Bool → ℕ → Bool
+is_inner literals b = not (b == line_feed) && is_plain literals b
+
+-- How far text goes in a line. So many bytes are such ones, whitespace at their end is after `dark` of them, and these
+-- bytes follow.
+abbrev pub line_end : ℕ → ℕ → List ℕ → ℕ
+line_end dark len [] = dark
+line_end dark len (b ∷ rest) = if not (b == line_feed) then len else if dark == len then len + 1 else dark
 
 -- whether a text begins with a byte of text
 abbrev pub begins_text : Bool → List ℕ → Bool

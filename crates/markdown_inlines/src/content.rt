@@ -10,7 +10,8 @@ ghost use Rattle.md_inlines.specs.Task as task;
 ghost use Rattle.markdown_inlines.specs.Given.{labels_of};
 
 use crate::brackets::{Source, read};
-use crate::emails::with_addresses;
+use crate::emails::{may_have_address, with_addresses};
+use crate::slices::after;
 use crate::tokens::tokens_of;
 use md_engine::event::Name;
 use md_engine::message::Message;
@@ -55,7 +56,7 @@ fn tokens_from(
     };
     let spans = read(alloc, source)?;
     let tokens = tokens_of(alloc, &spans, start, text.len())?;
-    if options.constructs.gfm_autolink_literal {
+    if may_have_address(options.constructs.gfm_autolink_literal, after(text, start)) {
         with_addresses(alloc, text, start, &tokens)
     } else {
         Ok(tokens)

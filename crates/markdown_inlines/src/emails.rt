@@ -1,6 +1,6 @@
 // E-mail addresses without angle brackets (GFM 6.9), in what is left as text outside of links.
 
-ghost use Rattle.std.specs.Prelude.{◌≡◌, ◌+◌, ◌++◌, ◌∷◌, [], true, IfOk, OnOk, drop, length, take};
+ghost use Rattle.std.specs.Prelude.{◌≡◌, ◌+◌, ◌&&◌, ◌++◌, ◌∷◌, [], true, IfOk, OnOk, drop, length, take};
 ghost use Rattle.md_inline_events.specs.Forest.{Forest, has_names, size};
 ghost use Rattle.md_inline_events.specs.Tokens.{tokens as tokens_of};
 ghost use Rattle.md_inlines.specs.Addresses as addresses;
@@ -28,6 +28,13 @@ struct Joined {
     tokens: Vec<Token>,
     /// How many bytes of text are after them.
     text: usize,
+}
+
+/// Whether addresses are searched in a text: none is where no `@` is. `literals` says whether they are read.
+pub(crate) fn may_have_address(literals: bool, text: &[u8]) -> bool
+    ensures { result ≡ (literals && spec.has_at_sign text.now) }
+{
+    literals && text.contains(&b'@')
 }
 
 /// How many bytes of text a token is; none of another.

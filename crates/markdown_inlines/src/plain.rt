@@ -1,12 +1,12 @@
 // Bytes that begin nothing: text, taken many at once.
 
-ghost use Rattle.std.specs.Prelude.{◌≡◌, ◌==◌, ℕ, ◌+◌, ◌<◌, ◌≤◌, true, IfSome, drop, length};
-ghost use Rattle.md_meaning.specs.Bytes.{begins};
-ghost use Rattle.md_inlines.specs.Breaks as breaks;
+ghost use Rattle.std.specs.Prelude.{◌≡◌, ℕ, ◌<◌, ◌≤◌, ◌+◌, ◌-◌, ◌^◌, true, false, drop, get_or, length};
+ghost use Rattle.std.specs.List.{prefix_len};
+ghost use Rattle.md_meaning.specs.Rest as rest;
 ghost use Rattle.markdown_inlines.specs.Plain as spec;
 
-use md_inlines::breaks::trailing_len;
-use md_scan::bytes::{is_white, white_len};
+use crate::slices::after;
+use md_scan::bytes::is_white;
 
 /// Whether nothing but trailing whitespace begins with this byte; `literals` says whether addresses without angle
 /// brackets are read.
@@ -20,25 +20,67 @@ fn is_plain(literals: bool, byte: u8) -> bool
     }
 }
 
-/// How much whitespace follows the first byte of a text, which is this, and ends no line; none where this byte does.
-/// So much is known to be at the front and to end no line.
-fn inner_after(known: usize, byte: u8, text: &[u8]) -> Option<usize>
-    requires first { begins (λ b. b == byte) text.now ≡ true }
-    requires inner { (k : ℕ) → k < known → breaks.trailing_len (drop k text.now) ≡ 0 }
-    ensures here { IfSome result (λ left. breaks.trailing_len text.now ≡ 0) }
-    ensures after { IfSome result (λ left.
-        (k : ℕ) → k < left → breaks.trailing_len (drop (k + 1) text.now) ≡ 0) }
+/// Whether it is such a byte and ends no line.
+fn is_inner(literals: bool, byte: u8) -> bool
+    ensures { result ≡ spec.is_inner literals byte }
 {
-    if known > 0 {
-        return Some(known - 1);
+    byte != b'\n' && is_plain(literals, byte)
+}
+
+/// How many of these come first.
+fn inner_len(literals: bool, text: &[u8]) -> usize
+    ensures value { result ≡ prefix_len (spec.is_inner literals) text.now }
+    ensures bound { result ≤ length text.now }
+{
+    text.iter()
+        .take_while(|byte| is_inner(literals, **byte))
+        .count()
+}
+
+/// How many bytes are before the whitespace at the end of a line.
+fn before_white(line: &[u8]) -> usize
+    ensures last { 0 < result → rest.is_white (get_or line.now (result - 1) 0) ≡ false }
+    ensures bound { result ≤ length line.now }
+{
+    let mut at = line.len();
+    while at > 0 {
+        if !is_white(line[at - 1]) {
+            return at;
+        }
+        at -= 1;
     }
-    if !is_white(byte) {
-        return Some(0);
+    0
+}
+
+/// How far text goes in a line, of which so many bytes are inner ones, `dark` of them before the whitespace at their
+/// end, and these follow.
+fn line_end(dark: usize, len: usize, rest: &[u8]) -> usize
+    requires { len + length rest.now < 2 ^ 64 }
+    ensures { result ≡ spec.line_end dark len rest.now }
+{
+    match rest.split_first() {
+        None => dark,
+        Some((byte, _following)) => {
+            if *byte != b'\n' {
+                len
+            } else if dark == len {
+                len + 1
+            } else {
+                dark
+            }
+        }
     }
-    if trailing_len(text) > 0 {
-        return None;
-    }
-    Some(white_len(text).saturating_sub(1))
+}
+
+/// How many bytes of text are at the front, up to where a line ends.
+fn line_len(literals: bool, text: &[u8]) -> usize
+    ensures text { (k : ℕ) → k < result → spec.begins_text literals (drop k text.now) ≡ true }
+    ensures bound { result ≤ length text.now }
+{
+    let len = inner_len(literals, text);
+    let (line, rest) = text.split_at(len);
+    let dark = before_white(line);
+    line_end(dark, len, rest)
 }
 
 /// How many bytes of text are at the front.
@@ -46,18 +88,11 @@ pub(crate) fn text_len(literals: bool, text: &[u8]) -> usize
     ensures text { (k : ℕ) → k < result → spec.begins_text literals (drop k text.now) ≡ true }
     ensures bound { result ≤ length text.now }
 {
-    let mut rest = text;
-    // How much whitespace comes first that is known not to end a line.
-    let mut inner = 0;
-    while let Some((byte, following)) = rest.split_first() {
-        if !is_plain(literals, *byte) {
-            return text.len() - rest.len();
-        }
-        match inner_after(inner, *byte, rest) {
-            Some(left) => inner = left,
-            None => return text.len() - rest.len(),
-        }
-        rest = following;
+    let mut at = 0;
+    let mut len = line_len(literals, text);
+    while len > 0 {
+        at += len;
+        len = line_len(literals, after(text, at));
     }
-    text.len()
+    at
 }

@@ -1,22 +1,22 @@
-use Rattle.std.proofs.Common.{arith, ap, sym, ◌∙◌, length}
-use Rattle.md_inlines.specs.Breaks.{trailing_len}
-use Rattle.markdown_inlines.proofs.PlainLemmas.{drop-more, tail-more, text-more}
+use Rattle.std.proofs.Common.{ℕ, ◌+◌, List, arith, ap, sym, ◌∙◌, drop, length, length-drop}
+use Rattle.markdown_inlines.specs.Plain.{begins_text}
+use Rattle.markdown_inlines.proofs.InnerLemmas.{texts-further}
 use Rattle.markdown_inlines.proofs.plain.text_len.Goals as goal
 
-pub loop-byte-preserved : goal.loop-byte-preserved
-loop-byte-preserved c = record {
-  front = omega (arith, ap length c.in-Some.ensures.cases.0, c.loop-byte.invariant.front);
-  is =
-      tail-more c.args.text.now c.loop-byte.rest.now c.in-Some.following.now c.in-Some.byte.now
-      c.in-Some.ensures.cases.0 c.loop-byte.invariant.front c.loop-byte.invariant.is;
+pub loop-len-preserved : goal.loop-len-preserved
+loop-len-preserved c = record {
+  within =
+      omega (
+        arith,
+        c.loop-len.invariant.within,
+        c.line_len-len-in-loop-len.ensures.bound,
+        ap length c.after.ensures,
+        length-drop (c.loop-len.at + c.loop-len.len) c.args.text.now,
+      );
   passed =
-      text-more c.args.literals c.args.text.now c.loop-byte.rest.now c.in-Some.following.now c.in-Some.byte.now
-      c.in-Some.ensures.cases.0 c.loop-byte.invariant.front c.loop-byte.invariant.is
-      (sym c.is_plain.ensures ∙ c.if-not-is_plain.false) c.in-Some-inner_after.ensures.here
-      c.loop-byte.invariant.passed;
-  inner = λ k few.
-      ap trailing_len
-      (sym
-      (drop-more c.loop-byte.rest.now c.in-Some.following.now c.in-Some.byte.now k c.in-Some.ensures.cases.0))
-      ∙ c.in-Some-inner_after.ensures.after k few;
+      texts-further c.args.literals c.args.text.now (c.loop-len.at + c.loop-len.len) c.line_len-len-in-loop-len.result
+      c.loop-len.invariant.passed
+      (λ k few.
+      ap (λ (l : List ℕ). begins_text c.args.literals (drop k l)) (sym c.after.ensures)
+      ∙ c.line_len-len-in-loop-len.ensures.text k few);
 }
