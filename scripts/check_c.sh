@@ -1,23 +1,33 @@
 #!/usr/bin/env bash
-# Builds the examples in C and Python over the library for C, runs them on the texts of `examples/texts`, and compares what
-# they print with what the program `events` prints. The header must have the names and numbers of the enum, and a call that
-# does not meet what the header asks for must be answered.
+# Tests the library for C (`c_library.sh`), static and shared, by the programs of `c/tests` and `examples/c`:
 #
-# The heap of the library calls `malloc` through `liblibc_c.a` of the kit, which is linked after it.
+# - the header has the names, numbers and constructs of the library, and the libraries have its functions and no other;
+# - calls with what CommonMark and the header say of them, and each request for memory refused in turn;
+# - on the texts of `examples/texts` under each set the events and outlines that `events` and `blocks` print; there and
+#   on random texts all calls agree, in eight threads, with the sanitizers of clang where it has them;
+# - two shared libraries of different versions in one process, beside a static one;
+# - the link checker of `examples/c` on the text with planted faults.
 #
-# It takes what `rt ci` has built, or a library LIBRARY and the programs of the folder PROGRAMS, where these are set. Where
-# the library for C cannot be built over that, `rt ci` makes those below it in a copy of the crates, of what it has kept.
+# It takes what `rt ci` has built, or a static library LIBRARY and the programs of the folder PROGRAMS, where these are
+# set. Where the library for C cannot be built over that, `rt ci` makes those below it in a copy of the crates, of what
+# it has kept. With `--fuzz SECONDS SEED` it tries random texts alone.
 set -euo pipefail
 cd "$(dirname "$0")/.."
+seconds=5
+seed=1
+if [ "${1:-}" = --fuzz ]; then
+    seconds=$2
+    seed=$3
+fi
 scripts/c_header.py --check
 events=${PROGRAMS:-crates/events/out}/events
+blocks=${PROGRAMS:-crates/blocks/out}/blocks
 kit=$(dirname "$(rt doc)")
-heap=$kit/c/liblibc_c.a
 work=$(mktemp -d)
 trap 'rm -rf "$work"' EXIT
 
-# `rt ci` proves the static library and keeps none. It is built over the libraries that `rt ci` has left, as `rt lib` builds
-# it. Where one is missing, or is left by `rt check`, the copy has them.
+# `rt ci` proves the static library and keeps none. It is built over the libraries that `rt ci` has left, as `rt lib`
+# builds it. Where one is missing, or is left by `rt check`, the copy has them.
 library=${LIBRARY:-$work/libhoxalgurre_c.a}
 if [ ! -f "$library" ]; then
     below=$(python3 - crates.txt <<'PYTHON'
@@ -40,10 +50,12 @@ PYTHON
             libraries+=(-L "dependency=$1/$crate/out/rlib")
             [ "$crate" = hoxalgurre_c ] || [ -f "$1/$crate/out/rlib/$crate.rlib/format" ] || return 1
         done
+        for crate in $(sed -n 's/^hoxalgurre_c[^:]*: *//p' crates.txt); do
+            libraries+=(--extern "$crate=$1/$crate/out/rlib/$crate.rlib")
+        done
         "$kit/bin/rattle" build --crate-name hoxalgurre_c "$1/hoxalgurre_c/src/lib.rt" --crate-type staticlib \
-            --extern "std=$kit/rlibs/std.rlib" --extern "markdown_blocks=$1/markdown_blocks/out/rlib/markdown_blocks.rlib" \
-            "${libraries[@]}" --antt-project "$kit/rattle/logic/antt-project.json" --logic-built "$kit/logic_built" \
-            --toolchain "$kit/toolchain" -o "$library" >"$work/built" 2>&1
+            --extern "std=$kit/rlibs/std.rlib" "${libraries[@]}" --antt-project "$kit/rattle/logic/antt-project.json" \
+            --logic-built "$kit/logic_built" --toolchain "$kit/toolchain" -o "$library" >"$work/built" 2>&1
     }
     build crates || {
         mkdir "$work/crates"
@@ -58,64 +70,108 @@ PYTHON
         }
     }
 fi
-gcc -std=c11 -O2 -Wall -Wextra -Werror -Iinclude examples/c/events.c "$library" "$heap" -o "$work/events"
-gcc -shared -o "$work/libhoxalgurre.so" -Wl,--whole-archive "$library" -Wl,--no-whole-archive "$heap"
+scripts/c_library.sh "$library" "$work"
+
+# The same with a version 1.9.1, as another library.
+mkdir "$work/other"
+cp -r include c scripts "$work/other/"
+sed -i 's/\(VERSION_MINOR\) 0/\1 9/; s/\(VERSION_PATCH\) 0/\1 1/' "$work/other/include/hoxalgurre.h"
+"$work/other/scripts/c_library.sh" "$library" "$work/other"
+
+# Builds a program of `c/tests` or `examples/c` over the static library: compile FILE.c [FLAGS].
+compile() {
+    local name
+    name=$(basename "$1" .c)
+    gcc -std=c11 -O2 -Wall -Wextra -Werror -Iinclude "$1" "$work/libhoxalgurre.a" -o "$work/$name" "${@:2}"
+}
+# The threads and random texts, with the sanitizers of clang where it has them.
+sanitizers=(-fsanitize=address,undefined)
+echo 'int main(void) { return 0; }' >"$work/none.c"
+clang "${sanitizers[@]}" "$work/none.c" -o "$work/none" 2>/dev/null || sanitizers=()
+for name in threads fuzz; do
+    if [ ${#sanitizers[@]} -gt 0 ]; then
+        clang -std=c11 -O1 -g "${sanitizers[@]}" -Iinclude "c/tests/$name.c" "$work/libhoxalgurre.a" -pthread \
+            -o "$work/$name"
+    else
+        compile "c/tests/$name.c" -pthread
+    fi
+done
+
+if [ "${1:-}" = --fuzz ]; then
+    "$work/fuzz" "$seconds" "$seed"
+    exit
+fi
+
+# The examples by their Makefile, over the shared library as it is installed.
+cp -r examples/c "$work/examples"
+mkdir -p "$work/prefix/lib" "$work/prefix/include"
+cp include/hoxalgurre.h "$work/prefix/include/"
+cp "$work/libhoxalgurre.so" "$work/prefix/lib/"
+ln -s libhoxalgurre.so "$work/prefix/lib/$(objdump -p "$work/libhoxalgurre.so" | awk '$1 == "SONAME" { print $2 }')"
+make -s -C "$work/examples" PREFIX="$work/prefix" CFLAGS="-O2 -Wall -Wextra -Werror"
+compile c/tests/calls.c
+compile c/tests/outline.c
+compile c/tests/versions.c -ldl
+compile c/tests/memory.c -Wl,--wrap=malloc,--wrap=realloc,--wrap=free
 passed=0
 failed=0
 compare() {
     if cmp -s "$work/wanted" "$work/printed"; then
         passed=$((passed + 1))
     else
-        echo "$1: prints something else than events"
+        echo "$1: prints something else than is wanted"
+        diff "$work/wanted" "$work/printed" | head -n 20 || true
         failed=$((failed + 1))
     fi
 }
+succeeds() {
+    if "$@"; then
+        passed=$((passed + 1))
+    else
+        echo "$*: status $?"
+        failed=$((failed + 1))
+    fi
+}
+
+# The functions of the header, and what each library has for others.
+grep -oE '\bhoxalgurre_[a-z0-9_]+\(' include/hoxalgurre.h | tr -d '(' | sort -u >"$work/wanted"
+nm -g --defined-only "$work/libhoxalgurre.a" | awk 'NF == 3 { print $3 }' | sort >"$work/printed"
+compare "the symbols of the static library"
+nm -D --defined-only "$work/libhoxalgurre.so" | awk '$2 == "T" { print $3 }' | sed 's/@.*//' | sort >"$work/printed"
+compare "the symbols of the shared library"
+
 for text in examples/texts/*.md docs/events.md; do
     for set in commonmark gfm all alerts; do
         "$events" "$set" <"$text" >"$work/wanted"
-        "$work/events" "$set" <"$text" >"$work/printed" || true
+        "$work/examples/events" "$set" <"$text" >"$work/printed" || true
         compare "examples/c $set $text"
-        python3 examples/python/hoxalgurre.py "$work/libhoxalgurre.so" "$set" <"$text" >"$work/printed" || true
-        compare "examples/python $set $text"
+        "$blocks" "$set" <"$text" >"$work/wanted"
+        "$work/outline" "$set" <"$text" >"$work/printed" || true
+        compare "c/tests/outline $set $text"
     done
 done
 
-# Calls that are refused: a byte that is not UTF-8, and a set that there is not.
+# Calls that are refused.
 refused() {
     printf 'ab\xffc' | "$@" >"$work/printed" 2>&1 || echo "status $?" >>"$work/printed"
     compare "$*"
 }
 printf 'events: not UTF-8 at byte 2\nstatus 1\n' >"$work/wanted"
-refused "$work/events" gfm
-refused python3 examples/python/hoxalgurre.py "$work/libhoxalgurre.so" gfm
-printf 'events: unknown set\nstatus 4\n' >"$work/wanted"
-refused "$work/events" none
-refused python3 examples/python/hoxalgurre.py "$work/libhoxalgurre.so" none
+refused "$work/examples/events" gfm
+printf 'usage: events commonmark|gfm|all|alerts < TEXT\nstatus 2\n' >"$work/wanted"
+refused "$work/examples/events" none
 
-# An array with room for a part of the events has that part, and the number of all of them.
-cat >"$work/room.c" <<'C'
-#include "hoxalgurre.h"
-int main(void) {
-    const uint8_t *text = (const uint8_t *)"# a\n\n> b\n";
-    struct hoxalgurre_event few[3], all[64];
-    few[2].name = 999;
-    struct hoxalgurre_answer part = hoxalgurre_events(text, 9, HOXALGURRE_GFM, few, 2);
-    struct hoxalgurre_answer whole = hoxalgurre_events(text, 9, HOXALGURRE_GFM, all, 64);
-    if (part.status || whole.status || part.count != whole.count || part.count < 3 || few[2].name != 999) {
-        return 1;
-    }
-    for (int at = 0; at < 2; at++) {
-        if (few[at].name != all[at].name || few[at].index != all[at].index || few[at].is_exit != all[at].is_exit) {
-            return 2;
-        }
-    }
-    struct hoxalgurre_answer none = hoxalgurre_events(text, 0, HOXALGURRE_ALL, few, 0);
-    return none.status || none.count ? 3 : 0;
-}
-C
-gcc -std=c11 -Wall -Wextra -Werror -Iinclude "$work/room.c" "$library" "$heap" -o "$work/room"
-echo 0 >"$work/wanted"
-"$work/room" && echo $? >"$work/printed" || echo $? >"$work/printed"
-compare "an array with little room"
-echo "c and python: $passed passed, $failed failed"
+{
+    sed 's|^|examples/texts/planted.md:|' examples/cases/planted.txt
+    echo "status 1"
+} >"$work/wanted"
+refused "$work/examples/links" examples/texts/planted.md
+[ "$(wc -l <examples/c/links.c)" -le 60 ] || { echo "examples/c/links.c: more than 60 lines"; failed=$((failed + 1)); }
+
+succeeds "$work/calls"
+succeeds "$work/memory"
+succeeds "$work/versions" "$work/libhoxalgurre.so" "$work/other/libhoxalgurre.so"
+succeeds "$work/threads" examples/texts/*.md docs/*.md
+succeeds "$work/fuzz" "$seconds" "$seed"
+echo "c: $passed passed, $failed failed"
 [ "$failed" -eq 0 ]

@@ -5,6 +5,7 @@
 #   random sets of all flags, and whether its events nest and tile) and `blocks random` (the laws of nesting).
 # - The programs `blocks` and `plain_blocks` on random texts: both print the same. `events` on these: its list is read here,
 #   apart from the bench, and nests and tiles the text.
+# - The library for C, in eight threads (`check_c.sh --fuzz`).
 #
 # It takes the programs that `rt ci` or `rt run` has built, and compiles the others without proof, once. It prints the seed,
 # and each thing that it finds, with its text and what was printed, is a file of a folder that it names. With SEED it does
@@ -150,8 +151,18 @@ def try_programs(seconds):
     return tried
 
 
-by_bench = try_bench(MINUTES * 60 * 2 // 3)
-by_programs = try_programs(MINUTES * 60 // 3)
-print(f"soak: seed {SEED}: {by_bench} tried by the bench, {by_programs} runs of programs, {findings} found in {found}")
+def try_c(seconds):
+    ran = subprocess.run(["scripts/check_c.sh", "--fuzz", str(seconds), str(SEED)], capture_output=True)
+    last = re.search(rb"fuzz: seed \d+: (\d+) texts", ran.stdout)
+    if ran.returncode or not last:
+        keep("library-for-c", f"status {ran.returncode}", ran.stdout, ran.stderr)
+    return int(last[1]) if last else 0
+
+
+by_bench = try_bench(MINUTES * 60 // 2)
+by_programs = try_programs(MINUTES * 60 // 4)
+by_c = try_c(MINUTES * 60 // 4)
+print(f"soak: seed {SEED}: {by_bench} tried by the bench, {by_programs} runs of programs, {by_c} texts by the library for C, "
+      f"{findings} found in {found}")
 sys.exit(findings > 0)
 PYTHON

@@ -1,82 +1,43 @@
-/* events SET < TEXT: prints the events of a text, as the program `events` does, by the library for C.
- *
- * The array begins with room for as many events as most texts have, and the call is repeated where that is too few. */
-#include "hoxalgurre.h"
-
-#include <stdio.h>
-#include <stdlib.h>
-#include <string.h>
-
-/* All of the standard input; NULL where there is no memory for it or a read failed. */
-static uint8_t *read_all(size_t *len) {
-    size_t room = 1 << 16;
-    uint8_t *text = malloc(room);
-    *len = 0;
-    while (text != NULL) {
-        size_t got = fread(text + *len, 1, room - *len, stdin);
-        *len += got;
-        if (got == 0) {
-            break;
-        }
-        if (*len == room) {
-            uint8_t *larger = realloc(text, room *= 2);
-            if (larger == NULL) {
-                free(text);
-            }
-            text = larger;
-        }
-    }
-    if (text != NULL && ferror(stdin)) {
-        free(text);
-        return NULL;
-    }
-    return text;
-}
+/* events SET < TEXT: prints the events of a text, as the program `events` does, by the library for C. */
+#include "text.h"
 
 static void print(const struct hoxalgurre_event *events, size_t count) {
     int depth = 0;
     for (size_t at = 0; at < count; at++) {
         const struct hoxalgurre_event *event = &events[at];
         depth -= event->is_exit;
-        printf("%*s%c %s %zu %zu %zu %zu\n", 2 * depth, "", event->is_exit ? '-' : '+', hoxalgurre_name_text(event->name),
-               event->line, event->column, event->index, event->vs);
+        printf("%*s%c %s %zu %zu %zu %zu\n", 2 * depth, "", event->is_exit ? '-' : '+',
+               hoxalgurre_name_text(event->name), event->line, event->column, event->index, event->vs);
         depth += !event->is_exit;
     }
 }
 
 int main(int argc, char **argv) {
-    static const char *const sets[] = {"commonmark", "gfm", "all", "alerts"};
-    static const char *const reasons[] = {"", "not UTF-8", "too long", "out of memory", "unknown set"};
-    const char *word = argc > 1 ? argv[1] : "commonmark";
-    uint32_t set = 0;
-    while (set < 4 && strcmp(sets[set], word) != 0) {
+    static const char *const words[] = {"commonmark", "gfm", "all", "alerts"};
+    static const uint64_t sets[] = {HOXALGURRE_COMMONMARK, HOXALGURRE_GFM, HOXALGURRE_ALL, HOXALGURRE_ALERTS};
+    size_t set = 0, len;
+    while (argc == 2 && set < 4 && strcmp(words[set], argv[1]) != 0) {
         set++;
     }
-    size_t len, room = 0;
-    uint8_t *text = read_all(&len);
-    struct hoxalgurre_event *events = NULL;
-    struct hoxalgurre_answer answer = {HOXALGURRE_NO_MEMORY, 0};
-    for (size_t wanted = len / 2 + 64; text != NULL; wanted = answer.count) {
-        free(events);
-        events = malloc(wanted * sizeof *events);
-        if (events == NULL) {
-            answer.status = HOXALGURRE_NO_MEMORY;
-            break;
-        }
-        room = wanted;
-        answer = hoxalgurre_events(text, len, set, events, room);
-        if (answer.status != HOXALGURRE_OK || answer.count <= room) {
-            break;
-        }
+    if (argc != 2 || set == 4) {
+        fprintf(stderr, "usage: events commonmark|gfm|all|alerts < TEXT\n");
+        return 2;
     }
-    if (answer.status == HOXALGURRE_OK) {
-        print(events, answer.count);
-    } else if (answer.status == HOXALGURRE_NOT_UTF8) {
-        fprintf(stderr, "events: not UTF-8 at byte %zu\n", answer.count);
+    char *text = read_all(stdin, &len);
+    if (text == NULL) {
+        fprintf(stderr, "events: no text\n");
+        return 2;
+    }
+    struct hoxalgurre_document document;
+    uint32_t status = hoxalgurre_parse((uint8_t *)text, len, sets[set], HOXALGURRE_WANT_EVENTS, &document);
+    if (status == HOXALGURRE_OK) {
+        print(document.events, document.event_count);
+    } else if (status == HOXALGURRE_NOT_UTF8) {
+        fprintf(stderr, "events: not UTF-8 at byte %zu\n", document.valid_len);
     } else {
-        fprintf(stderr, "events: %s\n", reasons[answer.status]);
+        fprintf(stderr, "events: %s\n", hoxalgurre_status_text(status));
     }
-    free(events);
+    hoxalgurre_free(&document);
     free(text);
-    return (int)answer.status;
+    return (int)status;
 }
