@@ -2,7 +2,8 @@
 """Compares what `hoxalgurre` prints with values that are not its own, byte for byte:
 
 - its outline, events, headings and HTML, as text and as JSON, with what report_model.py makes of what the proved programs
-  `blocks` and `events` print, on all texts of report_texts.py under each set;
+  `blocks` and `events` print, on all texts of report_texts.py under each set, HTML (report_pages.py) of what `hoxalgurre
+  events --inlines` prints;
 - the HTML with the pages of examples/cases/html.txt, and what `blocks` prints with the outlines of the rows;
 - its labels, arguments, files, messages and statuses with the cases of command_cases.py.
 
@@ -16,7 +17,7 @@ sys.path.insert(0, "scripts")
 sys.dont_write_bytecode = True
 from command_cases import Case, command_cases
 from report_model import TASKS, html_text, part, report
-from report_texts import SETS, models, pages, program, rows, texts
+from report_texts import SETS, chosen, models, pages, program, rows, texts
 
 
 def report_cases(folder, groups):
@@ -33,7 +34,7 @@ def report_cases(folder, groups):
             files = [(name, made[text, constructs]) for name, text in zip(names, group)]
             for form in ("text", "json"):
                 for task in TASKS:
-                    words = [task, "-c", constructs, "--format", form, *names]
+                    words = [*task.split(), *chosen(constructs), "--format", form, *names]
                     yield Case(words, report(task, form, files).encode(), folder=folder, parts=(task, form, files))
 
 

@@ -43,24 +43,30 @@ def expected(name):
     return read
 
 
+# The tags within a text, which are not compared.
+PHRASES = ("a", "br", "code", "del", "em", "img", "input", "strong", "sup")
+
+
 class Tags(html.parser.HTMLParser):
-    """The tags of a page, each with those in it: `ul(li(p) li)`, and a table as `table:COLUMNSxROWS`."""
+    """The tags of blocks of a page, each with those in it: `ul(li(p) li)`, and a table as `table:COLUMNSxROWS`."""
 
     def __init__(self):
         super().__init__()
         self.open = [["", []]]
 
     def handle_starttag(self, tag, attributes):
+        if tag in PHRASES:
+            return
         self.open.append([tag, []])
         if tag == "hr":
             self.handle_endtag(tag)
 
     def handle_endtag(self, tag):
+        if tag in PHRASES:
+            return
         if self.open[-1][0] != tag:
             sys.exit(f"a tag </{tag}> that closes <{self.open[-1][0]}>")
         name, inner = self.open.pop()
-        if name == "code":
-            return
         if name == "table":
             rows = [len(row[1]) for part in inner for row in part[1]]
             name, inner = f"table:{rows[0]}x{len(rows) - 1}", []
@@ -96,13 +102,16 @@ def is_place(raw, place):
     # A place within a cut tab has the byte of the tab, and a larger column.
     line, column = point(raw, place["offset"])
     in_tab = raw[place["offset"]:place["offset"] + 1] == b"\t" and column < place["column"] <= column + 3
-    return 0 <= place["offset"] <= len(raw) and line == place["line"] and (column == place["column"] or in_tab)
+    before = re.split(rb"\r\n|\n|\r", raw[:place["offset"]])[-1]
+    columns = len(before) + 1, len(before.decode().encode("utf-16-le")) // 2 + 1
+    return (0 <= place["offset"] <= len(raw) and line == place["line"] and (column == place["column"] or in_tab)
+            and columns == (place["byte_column"], place["utf16_column"]))
 
 
 def places(value):
     """All places in a JSON value."""
     if isinstance(value, dict):
-        if set(value) == {"line", "column", "offset"}:
+        if set(value) == {"line", "column", "offset", "byte_column", "utf16_column"}:
             yield value
         for inner in value.values():
             yield from places(inner)
@@ -113,6 +122,7 @@ def places(value):
 
 def read_json(task, path, constructs, status=0, words=()):
     printed = json.loads(run(task, *words, "-f", "json", "-c", constructs, path, status=status))
+    compare(f"{path}: {task}: version", [one["version"] for one in printed], [1])
     compare(f"{path}: {task}: file", [one["file"] for one in printed], [path])
     return printed[0]
 

@@ -5,7 +5,7 @@ import subprocess
 from collections import namedtuple
 
 from report_model import as_json, headings, place_of_byte, report
-from report_texts import SETS, label_cases, link_cases, models, table_cases, tree_cases
+from report_texts import SETS, chosen, label_cases, link_cases, models, table_cases, tree_cases
 from report_trees import spans_json, spans_text, tree, tree_text
 
 Result = namedtuple("Result", "status stdout stderr")
@@ -232,7 +232,7 @@ def file_cases(files):
                 ([task, "-c", "commonmark", name], "text", "commonmark"), ([task, "-call", "-fjson", name], "json", "all"),
                 ([task, name, "--constructs=alerts"], "text", "alerts"), ([task, name, "-calerts", "-fjson"], "json", "alerts"),
             ]:
-                yield Case(words, result(task, form, constructs, [name]), folder=folder)
+                yield Case([*words, *chosen(constructs)[2:]], result(task, form, constructs, [name]), folder=folder)
         odd = list(SHORT)[3]
         for form in ("text", "json"):
             yield Case([task, "-f", form, odd, "a.md"], result(task, form, "gfm", [odd, "a.md"]), folder=folder)
@@ -245,6 +245,24 @@ def file_cases(files):
             both = result(task, form, "gfm", ["b.md", "a.md"]).replace(b'"b.md"', b'"-"')
             both = both.replace(b"==> b.md <==", b"==> - <==")
             yield Case([task, "-f", form, "-", "a.md"], both, folder=folder, stdin=SHORT["b.md"])
+
+
+# A frontmatter before a heading: its heading by each set, and those where it is a break and the underline of a heading.
+FRONT = b"---\ntitle: x\n---\n# a\n"
+WITH_FRONT, WITHOUT_FRONT = b"4:1 17..21 a\n", b"2:1 4..17   title: x\n4:1 17..21 a\n"
+
+
+def frontmatter_cases():
+    """Frontmatter, which each set has unless it is turned off. A text without math and alerts has under all sets with
+    frontmatter and tables what it has under `all`."""
+    for words in ([], *(["-c", constructs] for constructs in SETS)):
+        yield Case(["headings", *words], WITH_FRONT, stdin=FRONT)
+        yield Case(["headings", *words, "--no-frontmatter"], WITHOUT_FRONT, stdin=FRONT)
+    text = FRONT + b"\n|b|\n|-|\n\n[^c]: d\n"
+    model = models([(text, "all")])[text, "all"]
+    for task in REPORTS[:4]:
+        for form in ("text", "json"):
+            yield Case([task, "-f", form], report(task, form, [("-", model)]).encode(), stdin=text)
 
 
 def failure_cases(files):
@@ -306,14 +324,14 @@ class Group:
     def add(self, name, constructs, text, value, status=0):
         """A file, with what is printed of it as text and as JSON."""
         self.together.setdefault(constructs, []).append((name, text, value, status))
-        self.alone.append(Case([*self.words, "-c", constructs, name], text.encode(), b"", status, self.folder))
+        self.alone.append(Case([*self.words, *chosen(constructs), name], text.encode(), b"", status, self.folder))
 
     def cases(self):
         for constructs, parts in self.together.items():
             names, texts, values, statuses = zip(*parts)
             heads = [f"==> {name} <==\n" if self.has_heads and len(names) > 1 else "" for name in names]
             text = "".join(head + text for head, text in zip(heads, texts))
-            array, status, words = "[" + ",\n".join(values) + "]\n", max(statuses), [*self.words, "-c", constructs]
+            array, status, words = "[" + ",\n".join(values) + "]\n", max(statuses), [*self.words, *chosen(constructs)]
             yield Case([*words, *names], text.encode(), b"", status, self.folder)
             yield Case([*words, "-f", "json", *names], array.encode(), b"", status, self.folder)
         yield from self.alone
@@ -335,7 +353,7 @@ def finding_cases(folder):
         for group, wanted in ((short, [line.removeprefix("? ") for line in case.wanted]),
                               (whole, [line for line in case.wanted if not line.startswith("? ")])):
             text = "".join(f"{name}:{line}\n" for line in wanted)
-            value = as_json(name, {"findings": [finding(source, line) for line in wanted]})
+            value = as_json(name, {"findings": [finding(source, line) for line in wanted]}, source)
             group.add(name, case.constructs, text, value, 1 if text else 0)
     yield from short.cases()
     yield from whole.cases()
@@ -383,7 +401,7 @@ def link_report_cases(folder):
         source = written(folder, name, case)
         made = [link(source, line) for line in case.wanted]
         is_broken = any(value["has_heading"] is False for _, value in made)
-        value = as_json(name, {"links": [value for _, value in made]})
+        value = as_json(name, {"links": [value for _, value in made]}, source)
         group.add(name, case.constructs, "".join(text for text, _ in made), value, 1 if is_broken else 0)
     yield from group.cases()
     both = b"==> - <==\n1:1 0..7 link #b, no such heading\n==> empty.md <==\n"
@@ -412,7 +430,7 @@ def table_report_cases(folder):
         name = f"t{at}.md"
         model = made[written(folder, name, case), case.constructs]
         entries = [entry(model, at, line) for at, line in enumerate(case.wanted.split("\n")[:-1])]
-        group.add(name, case.constructs, case.wanted, as_json(name, {"toc": entries}))
+        group.add(name, case.constructs, case.wanted, as_json(name, {"toc": entries}, model.source))
     yield from group.cases()
 
 
@@ -424,8 +442,8 @@ def tree_report_cases(folder):
         name = f"n{at}.md"
         source = written(folder, name, case)
         model, root = made[source, case.constructs], tree(source, case.wanted)
-        value = f'{{"file":"{name}","tree":{tree_text(root)}}}'
-        alone.add(name, case.constructs, tree_text(root) + "\n", value)
+        made_of = tree_text(root, source)
+        alone.add(name, case.constructs, made_of + "\n", f'{{"version":1,"file":"{name}","tree":{made_of}}}')
         shown.add(name, case.constructs, spans_text(model, root), spans_json(name, model, root))
     yield from alone.cases()
     yield from shown.cases()
@@ -436,11 +454,50 @@ def tree_report_cases(folder):
 
 def nested(deep):
     """The tree of a paragraph in so many quotes."""
-    place = lambda at: f'{{"line":1,"column":{at + 1},"offset":{at}}}'
+    place = lambda at: f'{{"line":1,"column":{at + 1},"offset":{at},"byte_column":{at + 1},"utf16_column":{at + 1}}}'
     node = lambda kind, at: f'{{"type":"{kind}","position":{{"start":{place(at)},"end":{place(2 * deep + 1)}}},"children":['
     text = f'{{"type":"text","value":"a","position":{{"start":{place(2 * deep)},"end":{place(2 * deep + 1)}}}}}'
     begins = node("root", 0) + "".join(node("blockquote", 2 * at) for at in range(deep)) + node("paragraph", 2 * deep)
     return begins + text + "]}" * (deep + 2) + "\n"
+
+
+# Texts with what `html` prints of them with these options, written by hand.
+PAGES = [
+    (["--unsafe"], "<b>\n\n[a](javascript:b) *<i>c</i>* ![<u>](data:d) <data:e>\n",
+     '<b>\n<p><a href="javascript:b">a</a> <em><i>c</i></em> <img src="data:d" alt="&lt;u&gt;" /> <a href="data:e">data:e</a></p>\n'),
+    (["--anchors"], "# a *b*\n\n# A b\n\n##\n\n> ### Footnote label\n\n#### user-content-fn-a\n\n##### C_d! \xe9\n",
+     '<h1 id="a-b">a <em>b</em></h1>\n<h1 id="a-b-1">A b</h1>\n<h2></h2>\n<blockquote>\n<h3>Footnote label</h3>\n</blockquote>\n'
+     '<h4>user-content-fn-a</h4>\n<h5 id="c_d-\xe9">C_d! \xe9</h5>\n'),
+    (["--anchors"], "# a\n# a\n# a-1\n", '<h1 id="a">a</h1>\n<h1 id="a-1">a</h1>\n<h1>a-1</h1>\n'),
+    (["--unsafe", "--anchors"], "# <b>a\n", '<h1 id="a"><b>a</h1>\n'),
+    (["--unsafe"], "<!-- \0 -->\n\na <b c='\0'>\n", "<!-- \ufffd -->\n<p>a <b c='\ufffd'></p>\n"),
+    ([], "[a](<b\0c>)\n", '<p><a href="b%EF%BF%BDc">a</a></p>\n'),
+    (["-ccommonmark"], "\ufeff# a\n", "<h1>a</h1>\n"),
+]
+
+PAGE_BEGIN = """<!DOCTYPE html>
+<html>
+<head>
+<meta charset="utf-8" />
+<meta name="viewport" content="width=device-width, initial-scale=1" />
+<title>"""
+
+
+def page_cases(folder):
+    """HTML with options."""
+    for words, text, wanted in PAGES:
+        yield Case(["html", *words], wanted.encode(), stdin=text.encode())
+        value = as_json("-", {"html": wanted}, text.encode())
+        yield Case(["html", *words, "-fjson"], f"[{value}]\n".encode(), stdin=text.encode())
+    for words, text, title, body in [
+        (["--page"], "a\n\n# b & *c*\n", "b &amp; c", "<p>a</p>\n<h1>b &amp; <em>c</em></h1>\n"),
+        (["--page", "--anchors"], "# a\n", "a", '<h1 id="a">a</h1>\n'), (["--page"], "a\n", "-", "<p>a</p>\n"),
+        (["--page"], "#\n\n# a\n", "-", "<h1></h1>\n<h1>a</h1>\n"), (["--page"], "", "-", ""),
+    ]:
+        wanted = f"{PAGE_BEGIN}{title}</title>\n</head>\n<body>\n{body}</body>\n</html>\n"
+        yield Case(["html", *words], wanted.encode(), stdin=text.encode())
+    yield Case(["html", "--page", "empty.md"], f"{PAGE_BEGIN}empty.md</title>\n</head>\n<body>\n</body>\n</html>\n".encode(),
+               folder=folder)
 
 
 # The parts of `*a* [b](c)`, which is on one line.
@@ -490,11 +547,26 @@ def inline_event_cases():
         event("+", *opened[-1])
     leave(0)
     yield Case(["events", "--inlines"], "".join(lines).encode(), stdin=b"*a* [b](c)")
-    yield Case(["events", "--inlines", "-fjson"], f"[{as_json('-', {'events': values})}]\n".encode(), stdin=b"*a* [b](c)")
+    yield Case(["events", "--inlines", "-fjson"], f"[{as_json('-', {'events': values}, b'*a* [b](c)')}]\n".encode(), stdin=b"*a* [b](c)")
+
+
+def place(line, column, offset, byte):
+    return f'{{"line":{line},"column":{column},"offset":{offset},"byte_column":{byte},"utf16_column":{byte}}}'
+
+
+def cut_tab_cases():
+    """The code of a quote whose prefix takes one column of a tab (CommonMark 2.2): two of the six columns are left of the
+    first tab, four are the second, and four of the six are the indent. The code begins at the byte of the cut tab."""
+    end = place(1, 12, 6, 7)
+    code = f'{{"type":"code","lang":null,"meta":null,"value":"  foo","position":{{"start":{place(1, 3, 1, 2)},"end":{end}}}}}'
+    quote = f'{{"type":"blockquote","position":{{"start":{place(1, 1, 0, 1)},"end":{end}}},"children":[{code}]}}'
+    root = f'{{"type":"root","position":{{"start":{place(1, 1, 0, 1)},"end":{place(2, 1, 7, 1)}}},"children":[{quote}]}}'
+    yield Case(["tree", "-c", "commonmark"], f"{root}\n".encode(), stdin=b">\t\tfoo\n")
 
 
 def command_cases(folder):
     """All cases; files are written to the folder."""
     files = Files(folder)
-    return [*help_cases(), *argument_cases(folder), *file_cases(files), *failure_cases(files), *finding_cases(folder),
-            *link_report_cases(folder), *table_report_cases(folder), *tree_report_cases(folder), *inline_event_cases()]
+    return [*help_cases(), *argument_cases(folder), *file_cases(files), *frontmatter_cases(),
+            *failure_cases(files), *finding_cases(folder), *link_report_cases(folder), *table_report_cases(folder),
+            *tree_report_cases(folder), *inline_event_cases(), *cut_tab_cases(), *page_cases(folder)]

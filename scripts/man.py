@@ -1,19 +1,40 @@
 #!/usr/bin/env python3
-"""man.py [--check]: writes the manual page docs/hoxalgurre.1 from what `hoxalgurre --help` prints, and the help of each of
-its commands. With --check the page is compared and not written.
+"""man.py [--check]: writes the manual page docs/hoxalgurre.1 from what `hoxalgurre --help` prints, the help of each of its
+commands, and what the examples print. With --check the page is compared and not written.
 
 It takes the program that `rt ci` has built, or that of the folder PROGRAMS, where that is set."""
 import os, re, subprocess, sys
 
-os.chdir(os.path.join(os.path.dirname(os.path.abspath(__file__)), ".."))
-PAGE = "docs/hoxalgurre.1"
-PROGRAM = os.path.join(os.environ.get("PROGRAMS", "crates/hoxalgurre/out"), "hoxalgurre")
+TOP = os.path.join(os.path.dirname(os.path.abspath(__file__)), "..")
+PAGE = os.path.join(TOP, "docs/hoxalgurre.1")
+PROGRAM = os.path.join(os.environ.get("PROGRAMS", os.path.join(TOP, "crates/hoxalgurre/out")), "hoxalgurre")
+
+# What an example is for, and its command.
+EXAMPLES = [
+    ("A table of contents, each heading with the bytes of its section:",
+     r"printf '# a\n\n## b\nc\n' | hoxalgurre headings"),
+    ("The same as links in Markdown:",
+     r"printf '# a\n\n## b\nc\n' | hoxalgurre headings --toc"),
+    ("What is wrong with labels, with status 1 where something is:",
+     r"printf '[a]: /b\n\n[c][d]\n' | hoxalgurre labels"),
+    ("The links of a text, and which lead to no heading:",
+     r"printf '# A title\n\n[b](#a-title) [c](#d)\n' | hoxalgurre links"),
+    ("The blocks of CommonMark, with what is in their texts:",
+     r"printf '# *a*\n' | hoxalgurre outline --inlines -c commonmark"),
+]
 
 
 def help_of(*words):
     """The paragraphs of a help text."""
     said = subprocess.run([PROGRAM, *words, "--help"], capture_output=True, text=True, check=True, timeout=60).stdout
     return [part.split("\n") for part in re.split(r"\n\n+", said.strip("\n"))]
+
+
+def printed(command):
+    """What a command prints."""
+    words = ["bash", "-c", f'hoxalgurre() {{ "$PROGRAM" "$@"; }}; {command}']
+    environment = {**os.environ, "PROGRAM": PROGRAM}
+    return subprocess.run(words, capture_output=True, text=True, timeout=60, env=environment).stdout
 
 
 def escaped(text):
@@ -57,6 +78,9 @@ def page():
         for head, part in parts.items():
             if head not in ("Options:", "Arguments:") and not head.startswith("Usage:"):
                 made += f".SS Of {name}\n" + escaped("\n".join(part)) + "\n"
+    made += ".SH EXAMPLES\n"
+    for about, command in EXAMPLES:
+        made += f".PP\n{escaped(about)}\n.PP\n.nf\n{escaped(f'$ {command}')}\n{escaped(printed(command))}.fi\n"
     return made
 
 
@@ -65,14 +89,19 @@ def words_of(line):
     return line.split()
 
 
-if not os.path.isfile(PROGRAM):
-    sys.exit(f"man: {PROGRAM} is not built")
-wanted = page()
-if sys.argv[1:] == ["--check"]:
-    if open(PAGE, encoding="utf-8").read() != wanted:
-        sys.exit("man: docs/hoxalgurre.1 is not what the help says; run scripts/man.py")
-    print("man: 1 passed, 0 failed")
-elif sys.argv[1:]:
-    sys.exit("usage: man.py [--check]")
-else:
-    open(PAGE, "w", encoding="utf-8").write(wanted)
+def main():
+    if not os.path.isfile(PROGRAM):
+        sys.exit(f"man: {PROGRAM} is not built")
+    wanted = page()
+    if sys.argv[1:] == ["--check"]:
+        if open(PAGE, encoding="utf-8").read() != wanted:
+            sys.exit("man: docs/hoxalgurre.1 is not what the help and the examples say; run scripts/man.py")
+        print("man: 1 passed, 0 failed")
+    elif sys.argv[1:]:
+        sys.exit("usage: man.py [--check]")
+    else:
+        open(PAGE, "w", encoding="utf-8").write(wanted)
+
+
+if __name__ == "__main__":
+    main()

@@ -20,13 +20,12 @@ os.chdir(os.path.join(os.path.dirname(os.path.abspath(__file__)), ".."))
 sys.path.insert(0, "scripts")
 sys.dont_write_bytecode = True
 
-CRATES = ("hoxalgurre", "html_blocks", "md_program", "hoxalgurre_c")
-# The report that most likely changes, by the file of a wrong body.
+CRATES = ("hoxalgurre", "markdown_html", "md_program", "hoxalgurre_c")
+# The report that most likely changes, by the name of the file.
 REPORTS = {"events": "events", "outline": "outline", "position": "outline", "headings": "headings", "labels": "labels",
            "references": "labels", "layer": "links", "anchors": "links", "links": "links", "toc": "headings",
-           "tree": "tree", "spans": "outline", "meaning": "tree", "source": "tree", "builder": "tree", "tags": "html",
-           "escape": "html", "ahead": "html", "render": "html", "loose": "html"}
-LEAST, LEAST_SCORE = 310, 97
+           "tree": "tree", "spans": "outline", "source": "tree", "builder": "tree"}
+LEAST, LEAST_SCORE = 393, 97
 
 Mutant = namedtuple("Mutant", "number file comment old new")
 
@@ -77,9 +76,13 @@ fn by_c(rt: &HostRuntime, set: &str, room: usize) -> std::io::Result<()> {
     for _ in 0..room {
         out.push(hoxalgurre_c::HoxalgurreEvent { name: 999, is_exit: 9, line: 0, column: 0, index: 0, vs: 9 })?;
     }
-    let set = match set { "commonmark" => 0, "gfm" => 1, "all" => 2, "alerts" => 3, _ => 4 };
-    let answer = hoxalgurre_c::hoxalgurre_events(rt.alloc(), bytes.as_slice(), set, out.as_mut_slice());
-    println!(rt; "{} {}", answer.status, answer.count)?;
+    let constructs = match set {
+        "commonmark" => 0x1ff, "gfm" => 0x7ff, "all" => 0x1fff, "alerts" => 0x3fff, _ => 1 << 63,
+    };
+    let mut count = 0;
+    let (bytes, room) = (bytes.as_slice(), out.as_mut_slice());
+    let status = hoxalgurre_c::hoxalgurre_events(rt.alloc(), bytes, constructs, room, &mut count);
+    println!(rt; "{} {}", status, count)?;
     for event in &out {
         println!(rt; "{} {} {} {} {} {}", event.name, event.is_exit, event.line, event.column, event.index, event.vs)?;
     }
@@ -146,7 +149,10 @@ def copied(work, found):
                        ("crates/mutant/c/mutant.c", IN_C.replace("KEPT", f"{work}/kept"))):
         with open(f"{work}/{name}", "w", encoding="utf-8") as file:
             file.write(text)
-    replaced(f"{work}/crates/hoxalgurre_c/src/lib.rt", "#[unsafe(no_mangle)]⏎pub extern \"C\" fn", "pub fn", "no export")
+    exports = f"{work}/crates/hoxalgurre_c/src/lib.rt"
+    text = open(exports, encoding="utf-8").read()
+    with open(exports, "w", encoding="utf-8") as file:
+        file.write(text.replace('#[unsafe(no_mangle)]\npub extern "C" fn', "pub fn"))
     main = f"{work}/crates/hoxalgurre/src/main.rt"
     replaced(main, "fn main(rt: HostRuntime)", "fn own_main(rt: HostRuntime)", "main")
     with open(main, "a", encoding="utf-8") as file:
@@ -225,6 +231,12 @@ class Tests:
         return None
 
 
+def report_of(file):
+    """The report that most likely changes, by the file of a wrong body."""
+    name = os.path.basename(file).removesuffix(".rt")
+    return "html" if file.startswith("markdown_html/") or name == "html" else REPORTS.get(name)
+
+
 def chosen(found, words):
     if words[:1] == ["--third"]:
         found, words = found[int(words[1])::3], words[2:]
@@ -242,7 +254,7 @@ def main():
             sys.exit(f"mutants: the bodies as they are: {why}")
 
         def outcome(it):
-            why = tests.refused_by(it.number, REPORTS.get(os.path.basename(it.file).removesuffix(".rt")))
+            why = tests.refused_by(it.number, report_of(it.file))
             if not why:
                 print(f"{it.file}: {it.comment}: no test refuses it", flush=True)
             return bool(why)

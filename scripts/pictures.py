@@ -17,7 +17,7 @@ TEXTS = ("Data", "CodeFlowChunk", "MathFlowChunk", "HtmlFlowData", "FrontmatterC
 GROUPS = (
     ("Tests and the reference program", r"test_.*|reference_(?!inlines).*|plain_.*",
      "what compares definitions, programs and the library with each other"),
-    ("Programs and examples", r"md_program|printing|html_blocks|blocks|events|hoxalgurre|hoxalgurre_c|examples_.*",
+    ("Programs and examples", r"md_program|printing|blocks|events|hoxalgurre|hoxalgurre_c|examples_.*",
      "what users run, link or copy"),
     ("The library", r"markdown_blocks|markdown_inlines|markdown_html",
      "parse, outline, wrap, the inline layer, HTML: what users name"),
@@ -172,7 +172,7 @@ def grouped(crates):
 
 def draw_crates():
     """A box for each group, with its crates, and a line to the group below."""
-    picture = Picture("The crates in ten groups, each above those that it depends on")
+    picture = Picture("The crates in nine groups, each above those that it depends on")
     width, size, top = 900, 12, 12
     groups = grouped(read_crates())
     for (title, _, what), names in zip(GROUPS, groups):

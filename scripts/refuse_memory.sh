@@ -324,7 +324,8 @@ def texts_of(name):
 # Each task: what it belongs to, and the call that does it.
 tasks = [(word, lambda word=word: refuse_call(word)) for word in CALLS]
 tasks += [(name, lambda name=name, it=it: refuse_text(name, *it)) for name in PROGRAMS for it in texts_of(name)]
-for report in ("outline", "events", "html", "headings", "labels", "links", "tree", "outline --inlines", "headings --toc"):
+for report in ("outline", "events", "html", "headings", "labels", "links", "tree", "outline --inlines", "headings --toc",
+               "html --page --anchors"):
     for form in ("text", "json"):
         tasks.append(("hoxalgurre", lambda report=report, form=form: refuse_report(report, form)))
 with concurrent.futures.ThreadPoolExecutor(os.cpu_count()) as pool:

@@ -1,23 +1,18 @@
 """What `hoxalgurre` has to print of a text, from what the proved programs `blocks` and `events` print of it.
 
 `blocks` prints a line for each block and for each of its texts, `events` where each part begins and ends. From both come
-the places of blocks, the virtual spaces before their texts, the records of events and the headings. The HTML is that
-of the examples of CommonMark 0.31.2 and of GFM, over the tree of blocks, with the texts as they are in the source;
-docs/rendering.md says what differs."""
+the places of blocks, the virtual spaces before their texts, the records of events and the headings. Pages are in
+report_pages.py."""
 import json
 import re
 from collections import namedtuple
 
+from report_pages import BLOCKS, CHUNKS, Page, read_events
+
 KINDS = ("line", "info", "meta", "label", "destination", "title", "delimiter", "cell")
 TEXT = re.compile(rf"((?:  )*)(?:({'|'.join(KINDS[1:])}) )?\| (.*)", re.S)
-ALIGNED = {"::": ' align="center"', ": ": ' align="left"', " :": ' align="right"', "  ": ""}
-CONTAINERS = ("quote", "item", "footnote", "alert")
-# The parts that have a line in the outline, without the rows of tables.
-BLOCKS = ("Frontmatter BlockQuote ListOrdered ListUnordered ListItem GfmFootnoteDefinition HeadingAtx HeadingSetext "
-          "ThematicBreak CodeIndented CodeFenced MathFlow HtmlFlow Definition Paragraph GfmTable GfmTableRow").split()
-CHUNKS = ("CodeFlowChunk", "MathFlowChunk", "HtmlFlowData", "FrontmatterChunk")
+VERSION = 1
 
-Event = namedtuple("Event", "enters name line column offset virtual")
 Text = namedtuple("Text", "kind spaces text")
 
 
@@ -34,15 +29,6 @@ class Block:
 
     def lines(self, kind="line"):
         return [text.text for text in self.texts if text.kind == kind]
-
-
-def read_events(printed):
-    """The events that `events` has printed."""
-    found = []
-    for line in printed.decode().split("\n")[:-1]:
-        sign, name, *numbers = line.split()
-        found.append(Event(sign == "+", name, *map(int, numbers)))
-    return found
 
 
 def places(events):
@@ -183,164 +169,59 @@ def headings_json(model):
     return {"headings": headings(model)}
 
 
-class Page:
-    """The page of a tree."""
-
-    def __init__(self, model):
-        self.model, self.made = model, ""
-        self.notes = iter(model.footnotes)
-        self.ids = set()
-        for block in model.roots:
-            self.write(block, False)
-
-    def line(self, text):
-        """Begins a line of the page."""
-        if self.made and not self.made.endswith("\n"):
-            self.made += "\n"
-        self.made += text
-
-    def write(self, block, is_tight):
-        getattr(self, "write_" + block.words.split(" ")[0])(block, is_tight)
-
-    def inside(self, block, is_tight=False):
-        for inner in block.inner:
-            self.write(inner, is_tight)
-
-    def write_frontmatter(self, _block, _is_tight):
-        pass
-
-    write_definition = write_frontmatter
-
-    def write_paragraph(self, block, is_tight):
-        text = escaped("\n".join(block.lines()))
-        if is_tight:
-            self.made += text
-        else:
-            self.line(f"<p>{text}</p>\n")
-
-    def write_heading(self, block, _is_tight):
-        tag = "h" + block.words.split(" ")[1]
-        self.line(f"<{tag}>{escaped(chr(10).join(block.lines()))}</{tag}>\n")
-
-    def write_break(self, _block, _is_tight):
-        self.line("<hr />\n")
-
-    def code(self, block, attribute):
-        lines = "".join(" " * text.spaces + text.text + "\n" for text in block.texts if text.kind == "line")
-        self.line(f"<pre><code{attribute}>{escaped(lines)}</code></pre>\n")
-
-    def write_code(self, block, _is_tight):
-        self.code(block, "")
-
-    def write_fence(self, block, _is_tight):
-        self.code(block, "".join(f' class="language-{escaped(info)}"' for info in block.lines("info")))
-
-    def write_math(self, block, _is_tight):
-        self.code(block, ' class="language-math"')
-
-    def write_html(self, block, _is_tight):
-        self.line(escaped("".join(" " * text.spaces + text.text + "\n" for text in block.texts)))
-
-    def write_quote(self, block, _is_tight):
-        self.line("<blockquote>\n")
-        self.inside(block)
-        self.line("</blockquote>\n")
-
-    def write_alert(self, block, _is_tight):
-        kind = block.words.split(" ")[1]
-        self.line(f'<div class="markdown-alert markdown-alert-{kind}">\n')
-        self.made += f'<p class="markdown-alert-title">{kind.capitalize()}</p>\n'
-        self.inside(block)
-        self.line("</div>\n")
-
-    def write_footnote(self, block, _is_tight):
-        """A section. Of equal labels the first has the `id`."""
-        label = next(self.notes)
-        self.line('<section class="footnote"' + ("" if label in self.ids else f' id="fn-{escaped(label)}"') + ">\n")
-        self.ids.add(label)
-        self.inside(block)
-        self.line("</section>\n")
-
-    def write_list(self, block, _is_tight):
-        name, attribute = "ul", ""
-        if block.words[-1] in ".)":
-            item = self.model.source[block.inner[0].start.offset:]
-            number = int(re.match(rb"[ \t]*(\d+)", item)[1])
-            name, attribute = "ol", "" if number == 1 else f' start="{number}"'
-        is_tight = not is_loose(block)
-        self.line(f"<{name}{attribute}>\n")
-        for item in block.inner:
-            self.line("<li>")
-            self.inside(item, is_tight)
-            self.made += "</li>\n"
-        self.made += f"</{name}>\n"
-
-    def write_table(self, block, _is_tight):
-        columns = alignments(block)
-        head, *body = block.inner
-        self.line("<table>\n<thead>\n" + row(head, "th", columns) + "</thead>\n")
-        if body:
-            self.made += "<tbody>\n" + "".join(row(one, "td", columns) for one in body) + "</tbody>\n"
-        self.made += "</table>\n"
-
-
-def escaped(text):
-    for char, name in (("&", "&amp;"), ("<", "&lt;"), (">", "&gt;"), ('"', "&quot;"), ("\0", "\ufffd")):
-        text = text.replace(char, name)
-    return text
-
-
-def alignments(table):
-    """The attribute of each column, by its cell in the delimiter row."""
-    cells = table.lines("delimiter")[0].strip("|").split("|")
-    cells = [cell.strip(" \t") for cell in cells]
-    return [ALIGNED[(":" if cell[0] == ":" else " ") + (":" if cell[-1] == ":" else " ")] for cell in cells]
-
-
-def row(block, tag, columns):
-    """A row: cells that have no column are left out, and missing ones are empty (GFM 4.10)."""
-    cells = block.lines("cell") + [""] * len(columns)
-    made = "".join(f"<{tag}{column}>{escaped(cell)}</{tag}>\n" for column, cell in zip(columns, cells))
-    return f"<tr>\n{made}</tr>\n"
-
-
-def last_line(block):
-    """The last line of a block, without blank lines after its last block."""
-    if block.is_one("list", "item", "footnote"):
-        return last_line(block.inner[-1]) if block.inner else block.start.line
-    return block.end.line
-
-
-def is_loose(block):
-    """Whether a blank line separates two items, or two blocks directly in an item (CommonMark 5.3)."""
-    together = [block.inner] + [item.inner for item in block.inner]
-    pairs = [pair for blocks in together for pair in zip(blocks, blocks[1:])]
-    return any(after.start.line - last_line(before) > 1 for before, after in pairs)
-
-
-def html_text(model):
-    return Page(model).made
+def html_text(model, is_unsafe=False):
+    """The page of a text, which is made once."""
+    made = vars(model).setdefault("pages", {})
+    if is_unsafe not in made:
+        made[is_unsafe] = Page(model, is_unsafe).made
+    return made[is_unsafe]
 
 
 def html_json(model):
     return {"html": html_text(model)}
 
 
+def unsafe_text(model):
+    return html_text(model, True)
+
+
+def unsafe_json(model):
+    return {"html": unsafe_text(model)}
+
+
 TASKS = {"outline": (outline_text, outline_json), "events": (events_text, events_json),
-         "headings": (headings_text, headings_json), "html": (html_text, html_json)}
+         "headings": (headings_text, headings_json), "html": (html_text, html_json),
+         "html --unsafe": (unsafe_text, unsafe_json)}
 
 
-def as_json(file, value):
+def as_json(file, value, source):
     """A value as the program writes it: on one line, without spaces, and only what has to be escaped escaped."""
-    return json.dumps({"file": file, **value}, ensure_ascii=False, separators=(",", ":"))
+    made = located({"version": VERSION, "file": file, **value}, line_starts(source), source)
+    return json.dumps(made, ensure_ascii=False, separators=(",", ":"))
+
+
+def line_starts(source):
+    return [0] + [found.end() for found in re.finditer(rb"\r\n|\n|\r", source)]
+
+
+def located(value, starts, source):
+    """The same, where each place has its columns in bytes and in UTF-16."""
+    if isinstance(value, dict):
+        made = {key: located(inner, starts, source) for key, inner in value.items()}
+        if {"line", "column", "offset"} <= set(value):
+            before = source[starts[value["line"] - 1]:value["offset"]]
+            units = len(before.decode().encode("utf-16-le")) // 2
+            made.update(byte_column=len(before) + 1, utf16_column=units + 1)
+        return made
+    return [located(inner, starts, source) for inner in value] if isinstance(value, list) else value
 
 
 def part(task, form, file, model, has_head):
     """What is printed of one file."""
     as_text, as_value = TASKS[task]
     if form == "json":
-        return as_json(file, as_value(model))
-    return (f"==> {file} <==\n" if has_head and task != "html" else "") + as_text(model)
+        return as_json(file, as_value(model), model.source)
+    return (f"==> {file} <==\n" if has_head and not task.startswith("html") else "") + as_text(model)
 
 
 def report(task, form, files, count=None):

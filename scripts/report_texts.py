@@ -1,9 +1,11 @@
 """The texts that `hoxalgurre` is tried on: those of the rows of crates/test_rows, of examples/texts, of the cases of
-examples/cases, and some that are made here. Also what `blocks` and `events` print of them."""
+examples/cases, and some that are made here. Also what `blocks`, `events` and `hoxalgurre events --inlines` print of them."""
+import copy
 import glob
 import os
 import re
 import subprocess
+import tempfile
 from collections import namedtuple
 from concurrent.futures import ThreadPoolExecutor
 
@@ -13,7 +15,7 @@ SETS = ("commonmark", "gfm", "all", "alerts")
 NAMED = {"n": "\n", "r": "\r", "t": "\t", "0": "\0"}
 ESCAPE = re.compile(r"\\(?:u\{([0-9a-f]+)\}|(.))", re.S)
 # How many rows and cases there are at least.
-LEAST_ROWS, LEAST_PAGES, LEAST_LABELS, LEAST_LINKS, LEAST_TABLES, LEAST_TREES = 1026, 178, 136, 25, 12, 29
+LEAST_ROWS, LEAST_PAGES, LEAST_LABELS, LEAST_LINKS, LEAST_TABLES, LEAST_TREES = 1026, 205, 138, 25, 12, 30
 
 Row = namedtuple("Row", "constructs text output")
 Sample = namedtuple("Sample", "line constructs text wanted")
@@ -128,6 +130,11 @@ def least_set(text, constructs):
     return constructs
 
 
+def chosen(constructs):
+    """The arguments of `hoxalgurre` for a set as `blocks` has it."""
+    return ["-c", constructs, *["--no-frontmatter"] * (constructs in ("commonmark", "gfm"))]
+
+
 def printed(name, constructs, text):
     ran = subprocess.run([program(name), constructs], input=text, capture_output=True, timeout=60)
     if ran.returncode:
@@ -141,7 +148,7 @@ def program(name):
 
 
 def models(wanted):
-    """The models of texts under sets, by both."""
+    """The models of texts under sets, by both, with the events of inline content too."""
     needed = sorted({(text, least_set(text, constructs)) for text, constructs in wanted})
     made = {}
 
@@ -151,4 +158,22 @@ def models(wanted):
 
     with ThreadPoolExecutor(4) as pool:
         list(pool.map(make, needed))
-    return {(text, constructs): made[text, least_set(text, constructs)] for text, constructs in wanted}
+    found = {}
+    for constructs in SETS:
+        under = list(dict.fromkeys(text for text, of in wanted if of == constructs))
+        for text, inlines in zip(under, inline_events(constructs, under)):
+            found[text, constructs] = copy.copy(made[text, least_set(text, constructs)])
+            found[text, constructs].inlines = inlines
+    return found
+
+
+def inline_events(constructs, under):
+    """The events of texts with those of inline content, by one run for many."""
+    for at in range(0, len(under), 200):
+        with tempfile.TemporaryDirectory() as folder:
+            for name, text in enumerate([*under[at:at + 200], b""]):
+                with open(os.path.join(folder, str(name)), "wb") as file:
+                    file.write(text)
+            words = [program("hoxalgurre"), "events", "--inlines", *chosen(constructs), *map(str, range(name + 1))]
+            ran = subprocess.run(words, capture_output=True, cwd=folder, timeout=120, check=True)
+            yield from re.split(rb"^==> \d+ <==\n", ran.stdout, flags=re.M)[1:-1]

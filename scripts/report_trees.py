@@ -3,7 +3,7 @@ of them. The source of each node is looked for in that of the node around it, af
 import json
 import re
 
-from report_model import TEXT, as_json, outline_json, place_of_byte, shown
+from report_model import TEXT, as_json, line_starts, located, outline_json, place_of_byte, shown
 
 NODE = re.compile(r'((?:  )*)(\w+) ("(?:[^"\\]|\\.)*")(.*)')
 FIELD = re.compile(r" (\w+)=")
@@ -61,8 +61,8 @@ def tree(source, wanted):
     return root
 
 
-def tree_text(root):
-    return json.dumps(root, ensure_ascii=False, separators=(",", ":"))
+def tree_text(root, source):
+    return json.dumps(located(root, line_starts(source), source), ensure_ascii=False, separators=(",", ":"))
 
 
 def spans(root):
@@ -102,4 +102,4 @@ def span_line(_block, depth, node):
 def spans_json(file, model, root):
     made = [{"inline": node["type"], "block": block, "depth": depth, "position": node["position"],
              "text": node[TEXTS[node["type"]]] if node["type"] in TEXTS else None} for block, depth, node in spans(root)]
-    return as_json(file, {**outline_json(model), "inlines": made})
+    return as_json(file, {**outline_json(model), "inlines": made}, model.source)

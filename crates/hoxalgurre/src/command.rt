@@ -15,6 +15,12 @@ or a text is not what the program takes, 3 where memory ran out, 4 where a file 
 output not be written. Of several files the highest counts. Where the reader of a pipe has enough,
 the program ends without a message, with the status of the files until then.";
 
+const AFTER_HTML: &str =
+    "Without `--unsafe` raw HTML is escaped, and a link has no address but with the protocol http, https,
+irc, ircs, mailto or xmpp, an image but with http or https. `-c commonmark --unsafe` prints what
+`cmark --unsafe` does. Footnotes that are called are at the end. A page has its first heading as its
+title, or the name of the file.";
+
 const AFTER_LABELS: &str =
     "A reference is text in brackets that a definition of its label alone would make a link, an image or
 the call of a footnote.";
@@ -43,11 +49,7 @@ pub(crate) fn command<'a>(alloc: Global) -> Result<Command<'a>, AllocError> {
         .arg_required_else_help(true)
         .subcommand(outline(alloc)?)?
         .subcommand(events(alloc)?)?
-        .subcommand(task(
-            alloc,
-            "html",
-            "Prints the blocks as HTML, with the text in them as it is in the source",
-        )?)?
+        .subcommand(html(alloc)?)?
         .subcommand(headings(alloc)?)?
         .subcommand(labels(alloc)?)?
         .subcommand(task(
@@ -79,6 +81,26 @@ fn events<'a>(alloc: Global) -> Result<Command<'a>, AllocError> {
         "Prints the events, each with line, column, byte, and the columns of a cut tab",
     )?
     .arg(flag(alloc, "inlines", "Prints those of inline content too"))
+}
+
+fn html<'a>(alloc: Global) -> Result<Command<'a>, AllocError> {
+    let anchors = flag(
+        alloc,
+        "anchors",
+        "Gives each heading the anchor by which `links` knows it",
+    );
+    let page = flag(alloc, "page", "Prints a whole page, and not what is in one");
+    Ok(
+        task(alloc, "html", "Prints the text as HTML")?
+            .arg(flag(
+                alloc,
+                "unsafe",
+                "Writes raw HTML as it is, and addresses with any protocol",
+            ))?
+            .arg(anchors)?
+            .arg(page)?
+            .after_help(AFTER_HTML),
+    )
 }
 
 fn headings<'a>(alloc: Global) -> Result<Command<'a>, AllocError> {
@@ -137,6 +159,7 @@ fn task<'a>(
         .value_parser(SETS.as_slice())
         .default_value("gfm")
         .help("Which constructs are on");
+    let frontmatter = flag(alloc, "no-frontmatter", "Reads no frontmatter");
     let format = Arg::new(alloc, "format")
         .short('f')
         .long("format")
@@ -150,6 +173,7 @@ fn task<'a>(
     Command::new(alloc, name)
         .about(about)
         .arg(constructs)?
+        .arg(frontmatter)?
         .arg(format)?
         .arg(files)
 }

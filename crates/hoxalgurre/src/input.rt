@@ -26,11 +26,7 @@ fn read_stdin(rt: &HostRuntime) -> io::Result<Vec<u8>> {
 
 /// The line and the column of a byte, both from 1: a line ends with a line feed, a carriage return, or both.
 pub(crate) fn place_of(bytes: &[u8], at: usize) -> (usize, usize) {
-    let mut place = Place {
-        line: 1,
-        column: 1,
-        offset: 0,
-    };
+    let mut place = Place::FIRST;
     let mut is_return = false;
     for byte in bytes.iter().take(at) {
         if *byte == b'\n' || *byte == b'\r' {

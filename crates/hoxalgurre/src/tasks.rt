@@ -3,10 +3,10 @@
 ghost use Rattle.markdown_blocks.specs.Parsed.{IsWithoutMdx};
 
 use crate::input::{place_of, read};
-use crate::reports::report::{Format, Report, Task, Wish, report_on};
+use crate::reports::report::{Asked as HtmlAsked, Format, Report, Task, Wish, report_on};
 use crate::trouble::Trouble;
 use clap::ArgMatches;
-use markdown_blocks::configuration::ParseOptions;
+use markdown_blocks::configuration::{Constructs, ParseOptions};
 use markdown_blocks::parser::MAX_LEN;
 use std::io::Write;
 use std::str;
@@ -19,15 +19,51 @@ struct Refusal {
     place: Option<(usize, usize)>,
 }
 
-/// The set of constructs of this name, or those of GFM.
-fn set_of(name: Option<&str>) -> &'static ParseOptions
+/// CommonMark with frontmatter.
+const COMMONMARK: ParseOptions = ParseOptions {
+    constructs: Constructs {
+        frontmatter: true,
+        ..Constructs::COMMONMARK
+    },
+};
+
+/// GFM with frontmatter.
+const GFM: ParseOptions = ParseOptions {
+    constructs: Constructs {
+        frontmatter: true,
+        ..Constructs::GFM
+    },
+};
+
+/// All but frontmatter.
+const ALL: ParseOptions = ParseOptions {
+    constructs: Constructs {
+        frontmatter: false,
+        ..Constructs::ALL
+    },
+};
+
+/// Alerts and all but frontmatter.
+const ALERTS: ParseOptions = ParseOptions {
+    constructs: Constructs {
+        frontmatter: false,
+        ..Constructs::ALERTS
+    },
+};
+
+/// The set of constructs of this name, or those of GFM, with frontmatter or without.
+fn set_of(name: Option<&str>, has_frontmatter: bool) -> &'static ParseOptions
     ensures { IsWithoutMdx result.now }
 {
-    match name {
-        Some("commonmark") => &ParseOptions::COMMONMARK,
-        Some("all") => &ParseOptions::ALL,
-        Some("alerts") => &ParseOptions::ALERTS,
-        _ => &ParseOptions::GFM,
+    match (name, has_frontmatter) {
+        (Some("commonmark"), true) => &COMMONMARK,
+        (Some("commonmark"), false) => &ParseOptions::COMMONMARK,
+        (Some("all"), true) => &ParseOptions::ALL,
+        (Some("all"), false) => &ALL,
+        (Some("alerts"), true) => &ParseOptions::ALERTS,
+        (Some("alerts"), false) => &ALERTS,
+        (_, true) => &GFM,
+        (_, false) => &ParseOptions::GFM,
     }
 }
 
@@ -61,7 +97,7 @@ fn report_file(rt: &HostRuntime, asked: Asked<'_>, file: &str) -> Result<Report,
         Ok(text) => text,
         Err(error) => return Err(no_text(bytes.as_slice(), error.valid_up_to())),
     };
-    let set = set_of(asked.constructs);
+    let set = set_of(asked.constructs, asked.has_frontmatter);
     match report_on(rt.alloc(), asked.wish, file, text, set) {
         Ok(report) => Ok(report),
         Err(_) => Err(refused(Trouble::OutOfMemory)),
@@ -91,6 +127,7 @@ fn no_text(bytes: &[u8], valid: usize) -> Refusal {
 struct Asked<'a> {
     wish: Wish<'a>,
     constructs: Option<&'a str>,
+    has_frontmatter: bool,
     /// Whether a line with the name is before each report.
     has_heads: bool,
 }
@@ -113,8 +150,14 @@ pub(crate) fn run_all(
             has_toc: chosen.get_flag("toc"),
             has_shortcuts: chosen.get_flag("shortcuts"),
             ignored: chosen.get_strs("ignore").unwrap_or(&[]),
+            html: HtmlAsked {
+                is_unsafe: chosen.get_flag("unsafe"),
+                has_anchors: chosen.get_flag("anchors"),
+                is_page: chosen.get_flag("page"),
+            },
         },
         constructs: chosen.get_str("constructs"),
+        has_frontmatter: !chosen.get_flag("no-frontmatter"),
         has_heads: files.len() > 1 && !is_json && has_head(task_of(name)),
     };
     let mut status = 0;

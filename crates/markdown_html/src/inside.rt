@@ -6,10 +6,10 @@
 use crate::address::{is_safe, push_address};
 use crate::footnotes::push_call;
 use crate::known::Known;
-use crate::reference::push_reference;
 use crate::spelled::push_string;
 use crate::survey::{Span, Target};
 use crate::tags::{begin_phrase, end_phrase};
+use crate::texts::without_padding;
 use crate::writer::Writer;
 use md_engine::event::{Event, Name};
 use md_events::slice::between;
@@ -46,14 +46,6 @@ pub(crate) struct Around {
     pub(crate) is_text: bool,
     /// Whether it is in a cell of a table.
     pub(crate) is_cell: bool,
-}
-
-/// Code without a space on both sides, if it has one on both and is not of spaces alone (CommonMark 6.1).
-fn trimmed(code: &[u8]) -> &[u8] {
-    match code {
-        [b' ', inner @ .., b' '] if code.iter().any(|byte| *byte != b' ') => inner,
-        _ => code,
-    }
 }
 
 impl Inside {
@@ -291,7 +283,7 @@ impl Inside {
             out.push(tag);
         }
         if self.is_shown(around) {
-            out.push_escaped(trimmed(self.scratch.as_str().as_bytes()));
+            out.push_escaped(without_padding(self.scratch.as_str().as_bytes()));
         }
         if is_tagged {
             out.push("</code>");
@@ -301,7 +293,8 @@ impl Inside {
     /// Writes the character that the reference is that ends here.
     fn push_character(&mut self, known: &Known, out: &mut Writer, end: usize) {
         self.scratch.clear();
-        push_reference(&mut self.scratch, between(known.bytes, self.reference, end));
+        self.scratch
+            .push_reference(between(known.bytes, self.reference, end));
         out.push_escaped(self.scratch.as_str().as_bytes());
     }
 
@@ -310,7 +303,7 @@ impl Inside {
         self.push_source(piece, around);
         let html = self.scratch.as_str().as_bytes();
         if known.options.allow_dangerous_html && self.images == 0 {
-            out.push_raw(html);
+            out.push_shown(html);
         } else {
             out.push_escaped(html);
         }

@@ -14,6 +14,8 @@ pub(crate) struct Known<'a, 'b> {
     pub(crate) bytes: &'a [u8],
     pub(crate) events: &'a [Event],
     pub(crate) options: &'a HtmlOptions<'a>,
+    /// The `id` of each heading, in the order of the text.
+    pub(crate) ids: &'a [String],
     /// The line ending of what the text does not have.
     pub(crate) ending: &'static str,
     /// Where each link and image leads, in the order of the text.

@@ -3,8 +3,8 @@
 // `html` (`page`) walks the events once and writes. What is known only further on, where links lead and which footnotes
 // are called, `survey` lists before, and `targets` and `notes` look up. `tags` says what is written around the parts of
 // a text, `ahead` what a block shows of itself after its enter, and `loose` finds the loose lists. `inside` writes what
-// is in a text, `table` cells, `footnotes` calls and their section, `address` addresses, `spelled` and `reference`
-// strings and characters. `writer` is where all of them write.
+// is in a text, `table` cells, `footnotes` calls and their section, `address` addresses, `spelled` strings. `writer` is
+// where all of them write, and `texts` what pieces of a text mean.
 #![tactic(auto)]
 
 mod address;
@@ -18,13 +18,13 @@ mod memory;
 mod notes;
 mod options;
 mod page;
-mod reference;
 mod spelled;
 mod survey;
 mod table;
 mod tags;
 mod targets;
+pub mod texts;
 mod writer;
 
 pub use crate::options::{HtmlOptions, LineEnding};
-pub use crate::page::html;
+pub use crate::page::{html, html_with_ids};

@@ -56,6 +56,8 @@ struct Page<'a, 'b> {
     shown: Shown,
     /// The name of the tag of the last heading.
     heading: &'static str,
+    /// How many headings have begun.
+    headings: usize,
     table: Table,
     lists: Lists<'a>,
     inside: Inside,
@@ -98,6 +100,18 @@ pub fn html<'a>(
     state: &'a ParseState<'a>,
     options: &'a HtmlOptions<'a>,
 ) -> Result<String, Message> {
+    html_with_ids(alloc, events, state, options, &[])
+}
+
+/// The same, where each heading has an `id` too: the first of `ids` for the first heading of the text, and so on. Where
+/// it is empty, or none is left, the heading has none.
+pub fn html_with_ids<'a>(
+    alloc: Global,
+    events: &'a [Event],
+    state: &'a ParseState<'a>,
+    options: &'a HtmlOptions<'a>,
+    ids: &'a [String],
+) -> Result<String, Message> {
     let forms = &state.gfm_footnote_definitions;
     let labels = Labels::new(alloc, &state.definitions, forms)?;
     let plan = plan_of(alloc, events, state, &labels)?;
@@ -106,6 +120,7 @@ pub fn html<'a>(
         bytes: state.bytes,
         events,
         options,
+        ids,
         ending: ending_of(state.bytes, options.default_line_ending.text()),
         targets: &plan.targets,
         notes: &plan.notes,
@@ -149,6 +164,7 @@ impl<'a, 'b> Page<'a, 'b> {
             },
             shown: Shown::Nothing,
             heading: "h1",
+            headings: 0,
             table: Table::new(Vec::new(alloc), most_repeated(known.bytes)),
             lists: Lists::new(alloc, loose),
             inside: Inside::new(alloc),
@@ -323,7 +339,21 @@ impl<'a, 'b> Page<'a, 'b> {
         self.heading = tag;
         self.out.push("<");
         self.out.push(tag);
+        self.push_heading_id();
         self.out.push(">");
+    }
+
+    /// Writes the `id` of the heading that begins, if it has one.
+    fn push_heading_id(&mut self) {
+        let place = self.headings;
+        self.headings = place.saturating_add(1);
+        if let Some(id) = self.known.ids.get(place) {
+            if !id.is_empty() {
+                self.out.push(" id=\"");
+                self.out.push_escaped(id.as_bytes());
+                self.out.push("\"");
+            }
+        }
     }
 
     fn exit_leaf(&mut self, name: Name) {
@@ -394,7 +424,7 @@ impl<'a, 'b> Page<'a, 'b> {
         let piece = self.piece(end);
         self.push_spaces(piece.before);
         if self.known.options.allow_dangerous_html {
-            self.out.push_raw(piece.bytes);
+            self.out.push_shown(piece.bytes);
         } else {
             self.out.push_escaped(piece.bytes);
         }

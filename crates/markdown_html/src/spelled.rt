@@ -1,6 +1,5 @@
 // What strings are: destinations and titles, with escapes and references read, and labels as they are in the text.
 
-use crate::reference::push_reference;
 use crate::writer::Writer;
 use md_engine::event::{Event, Kind, Name};
 use md_engine::message::Message;
@@ -28,7 +27,7 @@ pub(crate) fn push_string(out: &mut Writer, bytes: &[u8], events: &[Event]) {
                 reference = index;
             }
         } else if event.name == Name::CharacterReference {
-            push_reference(out, between(bytes, reference, index));
+            out.push_reference(between(bytes, reference, index));
         } else {
             push_piece(out, event.name, between(bytes, start, index));
         }

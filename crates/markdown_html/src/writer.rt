@@ -3,6 +3,7 @@
 // A request for memory that is refused is kept in mind, and nothing is written after it. So whoever writes need not ask
 // after each piece, but once at the end.
 
+use crate::texts;
 use std::alloc::Global;
 use std::{mem, str};
 
@@ -13,18 +14,6 @@ pub(crate) struct Writer {
     text: String,
     /// Whether a request for memory was refused.
     is_refused: bool,
-}
-
-/// What is written in place of a byte of a text. A zero character is U+FFFD (CommonMark 2.3).
-fn escaped(byte: u8) -> Option<&'static str> {
-    match byte {
-        b'&' => Some("&amp;"),
-        b'<' => Some("&lt;"),
-        b'>' => Some("&gt;"),
-        b'"' => Some("&quot;"),
-        0 => Some("\u{fffd}"),
-        _ => None,
-    }
 }
 
 impl Writer {
@@ -96,40 +85,30 @@ impl Writer {
 
     /// Writes a part of the text, so that a browser shows it as it is.
     pub(crate) fn push_escaped(&mut self, bytes: &[u8]) {
-        let mut from = 0;
-        for (at, byte) in bytes.iter().enumerate() {
-            if let Some(text) = escaped(*byte) {
-                self.push_bytes(bytes.get(from..at).unwrap_or(&[]));
-                self.push(text);
-                from = at.saturating_add(1);
-            }
+        if !self.is_refused {
+            self.is_refused = texts::push_escaped(&mut self.text, bytes).is_err();
         }
-        self.push_bytes(bytes.get(from..).unwrap_or(&[]));
     }
 
     /// Writes a part of the text as it is, but for zero characters.
-    pub(crate) fn push_raw(&mut self, bytes: &[u8]) {
-        let mut from = 0;
-        for (at, byte) in bytes.iter().enumerate() {
-            if *byte == 0 {
-                self.push_bytes(bytes.get(from..at).unwrap_or(&[]));
-                self.push("\u{fffd}");
-                from = at.saturating_add(1);
-            }
+    pub(crate) fn push_shown(&mut self, bytes: &[u8]) {
+        if !self.is_refused {
+            self.is_refused = texts::push_shown(&mut self.text, bytes).is_err();
         }
-        self.push_bytes(bytes.get(from..).unwrap_or(&[]));
     }
 
-    /// Writes bytes without the backslash before each `|`, as it is in a cell (GFM 4.10).
+    /// Writes bytes without the backslash before each `|`.
     pub(crate) fn push_unbarred(&mut self, bytes: &[u8]) {
-        let mut from = 0;
-        for (at, pair) in bytes.windows(2).enumerate() {
-            if matches!(pair, [b'\\', b'|']) {
-                self.push_bytes(bytes.get(from..at).unwrap_or(&[]));
-                from = at.saturating_add(1);
-            }
+        if !self.is_refused {
+            self.is_refused = texts::push_unbarred(&mut self.text, bytes).is_err();
         }
-        self.push_bytes(bytes.get(from..).unwrap_or(&[]));
+    }
+
+    /// Writes what a character reference means.
+    pub(crate) fn push_reference(&mut self, reference: &[u8]) {
+        if !self.is_refused {
+            self.is_refused = texts::push_reference(&mut self.text, reference).is_err();
+        }
     }
 
     /// Whether the last byte ends a line, or there is none.

@@ -6,7 +6,7 @@ use crate::page_rows::{
 };
 use markdown_blocks::message::Message;
 use markdown_blocks::parser::parse_with;
-use markdown_html::{HtmlOptions, LineEnding, html};
+use markdown_html::{HtmlOptions, LineEnding, html, html_with_ids};
 use markdown_inlines::Inlines;
 use md_program::body::{Body, MOST};
 use md_program::set::{Set, options};
@@ -156,6 +156,33 @@ fn options_are_taken(rt: HostRuntime) -> Result<(), Fail> {
     let alloc = rt.alloc();
     assert!(rt; page(alloc, "# a", Set::CommonMark, &ASKED)?.as_str() == "<h1>a</h1>\r\n");
     assert!(rt; page(alloc, "[^a]\n\n[^a]: b", Set::Gfm, &ASKED)?.as_str() == CALLED);
+    Ok(())
+}
+
+/// The HTML of a text of GFM, with the `id` of each heading.
+fn page_with_ids(alloc: Global, text: &str, ids: &[String]) -> Result<String, Message> {
+    if text.len() > MOST {
+        return Err(Message);
+    }
+    let options = Blocks::built(options(Set::Gfm));
+    let (events, state) = parse_with(alloc, &Inlines::GFM, text, &options)?;
+    html_with_ids(alloc, &events, &state, &HtmlOptions::SAFE, ids)
+}
+
+const HEADINGS: &str = "# a\n> b\n> -\n\n# c\n# d";
+
+const WITH_IDS: &str =
+    "<h1 id=\"e\">a</h1>\n<blockquote>\n<h2>b</h2>\n</blockquote>\n<h1 id=\"f&quot;\">c</h1>\n<h1>d</h1>\n";
+
+// An empty `id` is none, and a heading after the last has none.
+#[test]
+fn headings_have_ids(rt: HostRuntime) -> Result<(), Fail> {
+    let alloc = rt.alloc();
+    let mut ids = Vec::new(alloc);
+    for id in ["e", "", "f\""] {
+        ids.push(String::from_str(alloc, id)?)?;
+    }
+    assert!(rt; page_with_ids(alloc, HEADINGS, &ids)?.as_str() == WITH_IDS);
     Ok(())
 }
 

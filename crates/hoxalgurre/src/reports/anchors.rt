@@ -4,7 +4,6 @@
 // connects words, as `_`, are kept. Where a heading before it has the same, `-1` follows, then `-2`, and so on. Images,
 // raw HTML and calls of footnotes have no text. Headings in containers count too.
 
-use crate::reports::meaning::number_of;
 use crate::reports::nodes::{Node, NodeKind, is_image};
 use markdown_blocks::message::Message;
 use std::alloc::{AllocError, Global};
@@ -135,6 +134,12 @@ pub(crate) fn push_decoded(to: &mut Vec<u8>, fragment: &[u8]) -> Result<(), Allo
     Ok(())
 }
 
+/// The byte that two hexadecimal digits are.
 fn byte_of(high: u8, low: u8) -> u8 {
-    u8::try_from(number_of(&[high, low], 16)).unwrap_or(0)
+    let value = digit_of(high).saturating_mul(16);
+    u8::try_from(value.saturating_add(digit_of(low))).unwrap_or(0)
+}
+
+fn digit_of(digit: u8) -> u32 {
+    char::from(digit).to_digit(16).unwrap_or(0)
 }

@@ -4,10 +4,6 @@
 // and a sink says what becomes of the bytes of a piece. What is open is in lists, so depth takes no stack.
 
 use crate::reports::layer::is_inline_part;
-use crate::reports::meaning::{
-    Spelling, number_of, push_bytes, push_cell_text, push_reference, spelling_after,
-    without_padding,
-};
 use crate::reports::names::{
     Sink, is_address, is_line_piece, is_text, is_text_piece, kind_of, scheme_of, sink_of,
 };
@@ -18,6 +14,7 @@ use markdown_blocks::event::{Event, Kind, Name, Point};
 use markdown_blocks::message::Message;
 use markdown_blocks::parser::ParseState;
 use markdown_blocks::slice;
+use markdown_html::texts::{push_reference, push_shown, push_unbarred, without_padding};
 use std::alloc::{AllocError, Global};
 use std::mem;
 
@@ -50,7 +47,8 @@ struct Builder<'s, 't> {
     sinks: Vec<Sink>,
     /// Where the piece begins that is open.
     entered: Option<Point>,
-    spelling: Spelling,
+    /// Where the last character reference begins.
+    reference: usize,
     gathered: Gathered,
     source: Source,
     is_cell: bool,
@@ -78,17 +76,11 @@ pub(crate) fn nodes_of(
     }
     let end = match events.last() {
         Some(event) => Place::of(event.point),
-        None => FIRST,
+        None => Place::FIRST,
     };
     builder.end_node(end)?;
     Ok(builder.nodes)
 }
-
-const FIRST: Place = Place {
-    line: 1,
-    column: 1,
-    offset: 0,
-};
 
 /// A tree of a root.
 fn begun<'s, 't>(alloc: Global, state: &'s ParseState<'t>) -> Result<Builder<'s, 't>, AllocError> {
@@ -99,7 +91,7 @@ fn begun<'s, 't>(alloc: Global, state: &'s ParseState<'t>) -> Result<Builder<'s,
         open: Vec::new(alloc),
         sinks: Vec::new(alloc),
         entered: None,
-        spelling: Spelling::Name,
+        reference: 0,
         gathered: Gathered {
             value: String::new(alloc),
             position: None,
@@ -116,7 +108,7 @@ fn begun<'s, 't>(alloc: Global, state: &'s ParseState<'t>) -> Result<Builder<'s,
         definitions: 0,
         footnotes: 0,
     };
-    builder.begin_node(NodeKind::Root, FIRST)?;
+    builder.begin_node(NodeKind::Root, Place::FIRST)?;
     Ok(builder)
 }
 
@@ -139,6 +131,9 @@ impl<'s, 't> Builder<'s, 't> {
         self.source.enter(event.name)?;
         if is_text(event.name) {
             self.begin_text(here);
+        }
+        if event.name == Name::CharacterReference {
+            self.reference = event.point.index;
         }
         self.enter_part(event.name)
     }
@@ -277,6 +272,9 @@ impl<'s, 't> Builder<'s, 't> {
         if let Some(start) = self.entered.take() {
             self.push_piece(event.name, start, event.point)?;
         }
+        if event.name == Name::CharacterReference {
+            self.push_character(event.point)?;
+        }
         if is_text(event.name) {
             self.note_end(here);
         }
@@ -307,10 +305,9 @@ impl<'s, 't> Builder<'s, 't> {
     fn push_piece(&mut self, name: Name, start: Point, end: Point) -> Result<(), AllocError> {
         let bytes = self.state.bytes;
         let piece = bytes.get(start.index..end.index).unwrap_or(&[]);
-        self.source.push(name, piece, self.spelling)?;
+        self.source.push(name, piece)?;
         match name {
             Name::LineEnding => self.push_ending(end),
-            Name::CharacterReferenceValue => self.push_named(piece),
             Name::Data if self.is_checked => self.push_after_check(piece),
             name if is_text_piece(name) => self.push_meaning(piece),
             name if is_line_piece(name) => self.push_line(start, end),
@@ -331,7 +328,7 @@ impl<'s, 't> Builder<'s, 't> {
     fn push_meaning(&mut self, piece: &[u8]) -> Result<(), AllocError> {
         self.is_broken = false;
         match self.sink() {
-            Sink::Phrasing => push_bytes(&mut self.gathered.value, piece),
+            Sink::Phrasing => push_shown(&mut self.gathered.value, piece),
             sink => self.push_word(sink, piece),
         }
     }
@@ -345,10 +342,13 @@ impl<'s, 't> Builder<'s, 't> {
         }
     }
 
-    /// Appends the characters of a reference.
-    fn push_named(&mut self, piece: &[u8]) -> Result<(), AllocError> {
+    /// Appends what the character reference means that ends here.
+    fn push_character(&mut self, end: Point) -> Result<(), AllocError> {
+        let bytes = self.state.bytes;
+        let written = bytes.get(self.reference..end.index).unwrap_or(&[]);
         let mut meant = String::new(self.alloc);
-        push_reference(&mut meant, self.spelling, piece)?;
+        push_reference(&mut meant, written)?;
+        self.source.push_meant(meant.as_str())?;
         self.push_meaning(meant.as_bytes())
     }
 
@@ -437,7 +437,7 @@ impl<'s, 't> Builder<'s, 't> {
     ) -> Result<(), AllocError> {
         self.push_word(Sink::Url, scheme_of(name).as_bytes())?;
         self.push_word(Sink::Url, piece)?;
-        push_bytes(&mut self.gathered.value, piece)?;
+        push_shown(&mut self.gathered.value, piece)?;
         self.gathered.position = Some(Position {
             start: Place::of(start),
             end: Place::of(end),
@@ -447,7 +447,6 @@ impl<'s, 't> Builder<'s, 't> {
 
     /// Reads a piece that says something of a node.
     fn push_attribute(&mut self, name: Name, piece: &[u8]) -> Result<(), AllocError> {
-        self.spelling = spelling_after(name, self.spelling);
         match name {
             Name::HardBreakEscape | Name::HardBreakTrailing => self.is_broken = true,
             Name::ListItemValue => self.set_start(piece),
@@ -491,7 +490,7 @@ impl<'s, 't> Builder<'s, 't> {
         let outer = self.outer();
         if let Some(list) = outer.and_then(|at| self.nodes.get_mut(at)) {
             if !list.has_inner {
-                list.kind = NodeKind::List(Some(number_of(digits, 10)));
+                list.kind = NodeKind::List(Some(number_of(digits)));
             }
         }
     }
@@ -585,7 +584,11 @@ impl<'s, 't> Builder<'s, 't> {
             return Ok(());
         };
         let inside = without_padding(node.words.value.as_bytes());
-        push_cell_text(&mut value, str::from_utf8(inside).unwrap_or(""), is_cell)?;
+        if is_cell {
+            push_unbarred(&mut value, inside)?;
+        } else {
+            push_shown(&mut value, inside)?;
+        }
         node.words.value = value;
         Ok(())
     }
@@ -637,6 +640,11 @@ fn keeps_last(kind: NodeKind) -> bool {
     }
 }
 
+/// The number that some digits are, of which an ordered list has at most nine (CommonMark 5.2).
+fn number_of(digits: &[u8]) -> u32 {
+    str::from_utf8(digits).unwrap_or("").parse().unwrap_or(0)
+}
+
 /// Sets the depth of an ATX heading by its first sequence.
 fn set_depth(node: &mut Node, sequence: &[u8]) {
     if matches!(node.kind, NodeKind::Heading(0)) {
@@ -665,9 +673,9 @@ fn mark_column(table: &mut Node) {
 /// Appends bytes to a text of a node.
 fn push_to(words: &mut Words, sink: Sink, piece: &[u8]) -> Result<(), AllocError> {
     match sink {
-        Sink::Value | Sink::Lines => push_bytes(&mut words.value, piece),
-        Sink::Url => push_bytes(&mut words.url, piece),
-        Sink::Label => push_bytes(&mut words.label, piece),
+        Sink::Value | Sink::Lines => push_shown(&mut words.value, piece),
+        Sink::Url => push_shown(&mut words.url, piece),
+        Sink::Label => push_shown(&mut words.label, piece),
         Sink::Title => push_optional(&mut words.title, piece),
         Sink::Lang => push_optional(&mut words.lang, piece),
         Sink::Meta => push_optional(&mut words.meta, piece),
@@ -677,7 +685,7 @@ fn push_to(words: &mut Words, sink: Sink, piece: &[u8]) -> Result<(), AllocError
 
 fn push_optional(word: &mut Option<String>, piece: &[u8]) -> Result<(), AllocError> {
     match word {
-        Some(word) => push_bytes(word, piece),
+        Some(word) => push_shown(word, piece),
         None => Ok(()),
     }
 }

@@ -1,6 +1,6 @@
 // Events as records.
 
-use crate::reports::position::Place;
+use crate::reports::position::{Columns, Place};
 use markdown_blocks::event::{Event, Kind};
 use markdown_blocks::names::text_of;
 use serde::Serialize;
@@ -19,13 +19,19 @@ pub(crate) struct Record {
 }
 
 /// A record for each event.
-pub(crate) fn records(alloc: Global, events: &[Event]) -> Result<Vec<Record>, AllocError> {
+pub(crate) fn records(
+    alloc: Global,
+    columns: &Columns,
+    events: &[Event],
+) -> Result<Vec<Record>, AllocError> {
     let mut records = Vec::new(alloc);
     for event in events {
+        let mut place = Place::of(event.point);
+        columns.set(&mut place);
         records.push(Record {
             kind: kind_of(event.kind),
             name: text_of(event.name),
-            place: Place::of(event.point),
+            place,
             virtual_spaces: event.point.vs,
         })?;
     }

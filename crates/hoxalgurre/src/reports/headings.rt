@@ -5,7 +5,7 @@
 
 use crate::reports::outline::{is_text, positions};
 use crate::reports::parts::OfParts;
-use crate::reports::position::Position;
+use crate::reports::position::{Columns, Position};
 use markdown_blocks::event::Event;
 use markdown_blocks::message::Message;
 use markdown_blocks::outline::{OutlineLine, Word, outline};
@@ -81,6 +81,13 @@ fn push_found(
         }
     }
     Ok(())
+}
+
+/// Sets the columns of headings.
+pub(crate) fn set_heading_columns(columns: &Columns, headings: &mut [Heading]) {
+    for heading in headings.iter_mut() {
+        columns.set_both(&mut heading.position);
+    }
 }
 
 /// Sets the ends of all sections of a text of `len` bytes, from the last to the first. `ends` has for each depth where

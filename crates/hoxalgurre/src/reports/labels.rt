@@ -3,7 +3,7 @@
 // A definition whose label one before it has is a duplicate, and is never used (CommonMark 6.3). A reference that no
 // definition, or no footnote definition, answers is text. A definition that no reference names shows nothing.
 
-use crate::reports::position::{Place, Position};
+use crate::reports::position::{Columns, Place, Position};
 use crate::reports::references::{Form, Reference, references};
 use markdown_blocks::event::{Event, Kind, Name};
 use markdown_blocks::label::normal_form;
@@ -128,14 +128,17 @@ pub(crate) fn findings(
     Ok(found)
 }
 
+/// Sets the columns of findings.
+pub(crate) fn set_finding_columns(columns: &Columns, findings: &mut [Finding]) {
+    for finding in findings.iter_mut() {
+        columns.set_both(&mut finding.position);
+    }
+}
+
 /// Where the parts of this name are, in the order of the text.
 fn positions(alloc: Global, events: &[Event], name: Name) -> Result<Vec<Position>, AllocError> {
     let mut positions = Vec::new(alloc);
-    let mut start = Place {
-        line: 1,
-        column: 1,
-        offset: 0,
-    };
+    let mut start = Place::FIRST;
     for event in events.iter().filter(|event| event.name == name) {
         let here = Place::of(event.point);
         match event.kind {

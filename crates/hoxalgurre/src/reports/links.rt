@@ -4,7 +4,7 @@
 
 use crate::reports::anchors::{Anchor, push_decoded};
 use crate::reports::nodes::{Node, NodeKind};
-use crate::reports::position::{Position, push_position};
+use crate::reports::position::{Columns, Position, push_position};
 use markdown_blocks::message::Message;
 use serde::Serialize;
 use std::alloc::{AllocError, Global};
@@ -130,6 +130,13 @@ fn has_heading(
         .contains(str::from_utf8(fragment).unwrap_or(""));
     let meant = str::from_utf8(decoded.as_slice()).unwrap_or("");
     Ok(Some(is_plain || known.anchors.contains(meant)))
+}
+
+/// Sets the columns of links.
+pub(crate) fn set_link_columns(columns: &Columns, links: &mut [LinkRecord]) {
+    for link in links.iter_mut() {
+        columns.set_both(&mut link.position);
+    }
 }
 
 /// How many links lead to no heading.

@@ -1,6 +1,6 @@
 // The syntax tree of a text, in the form of mdast: a list of nodes, each before those in it.
 
-use crate::reports::position::Position;
+use crate::reports::position::{Columns, Position};
 use std::alloc::Global;
 
 /// How a reference is written that a definition answers.
@@ -121,6 +121,13 @@ impl Node {
             last_line: position.start.line,
             columns: Vec::new(alloc),
         }
+    }
+}
+
+/// Sets the columns of nodes.
+pub(crate) fn set_node_columns(columns: &Columns, nodes: &mut [Node]) {
+    for node in nodes.iter_mut() {
+        columns.set_both(&mut node.position);
     }
 }
 

@@ -3,7 +3,7 @@
 // Its words and its texts are those of the program `blocks`, and its code prints them.
 
 use crate::reports::parts::OfParts;
-use crate::reports::position::{Place, Position, push_position};
+use crate::reports::position::{Columns, Place, Position, push_position};
 use markdown_blocks::event::{Event, Kind, Name};
 use markdown_blocks::message::Message;
 use markdown_blocks::names::is_block;
@@ -69,6 +69,13 @@ impl<'a> OfParts<'a> for OutlineBlocks<'a> {
         self.definitions.append(&mut part.definitions)?;
         self.footnotes.append(&mut part.gfm_footnote_definitions)?;
         Ok(())
+    }
+}
+
+/// Sets the columns of blocks.
+pub(crate) fn set_block_columns(columns: &Columns, blocks: &mut [Block]) {
+    for block in blocks.iter_mut() {
+        columns.set_both(&mut block.position);
     }
 }
 

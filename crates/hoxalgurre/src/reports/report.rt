@@ -5,17 +5,21 @@ ghost use Rattle.markdown_blocks.specs.Parsed.{IsSmall, IsWithoutMdx};
 use crate::reports::anchors::anchors;
 use crate::reports::builder::nodes_of;
 use crate::reports::events::{Record, records};
-use crate::reports::headings::{Heading, Headings, end_sections, push_headings};
-use crate::reports::labels::{Finding, Wanted, findings, push_findings};
+use crate::reports::headings::{
+    Heading, Headings, end_sections, push_headings, set_heading_columns,
+};
+pub use crate::reports::html::Asked;
+use crate::reports::html::html_of;
+use crate::reports::labels::{Finding, Wanted, findings, push_findings, set_finding_columns};
 use crate::reports::layer::parse_inlines;
-use crate::reports::links::{LinkRecord, count_broken, links, push_links};
-use crate::reports::nodes::Node;
-use crate::reports::outline::{Block, OutlineBlocks, OutlineText};
+use crate::reports::links::{LinkRecord, count_broken, links, push_links, set_link_columns};
+use crate::reports::nodes::{Node, set_node_columns};
+use crate::reports::outline::{Block, OutlineBlocks, OutlineText, set_block_columns};
 use crate::reports::parts::hand_out;
-use crate::reports::spans::{OutlineSpans, Span, spans};
-use crate::reports::toc::{Entry, entries, push_entries};
+use crate::reports::position::Columns;
+use crate::reports::spans::{OutlineSpans, Span, set_span_columns, spans};
+use crate::reports::toc::{Entry, entries, push_entries, set_entry_columns};
 use crate::reports::tree::push_tree;
-use html_blocks::render::render;
 use markdown_blocks::configuration::ParseOptions;
 use markdown_blocks::event::Event;
 use markdown_blocks::message::Message;
@@ -31,7 +35,7 @@ pub enum Task {
     Outline,
     /// The events.
     Events,
-    /// The blocks as HTML.
+    /// The text as HTML.
     Html,
     /// The table of contents.
     Headings,
@@ -56,6 +60,7 @@ pub struct Wish<'a> {
     pub has_shortcuts: bool,
     /// Labels that may be undefined.
     pub ignored: &'a [&'a str],
+    pub html: Asked,
 }
 
 /// How a report is written.
@@ -75,8 +80,12 @@ pub struct Report {
     pub findings: usize,
 }
 
+/// The version of the JSON of all reports (`docs/json.md`).
+const VERSION: u32 = 1;
+
 #[derive(Drop, Serialize)]
 struct OutlineReport<'f, 't, 'l> {
+    version: u32,
     file: &'f str,
     blocks: Vec<Block<'t>>,
     definitions: &'l [String],
@@ -85,42 +94,49 @@ struct OutlineReport<'f, 't, 'l> {
 
 #[derive(Drop, Serialize)]
 struct EventsReport<'a> {
+    version: u32,
     file: &'a str,
     events: Vec<Record>,
 }
 
 #[derive(Drop, Serialize)]
 struct HtmlReport<'a> {
+    version: u32,
     file: &'a str,
     html: String,
 }
 
 #[derive(Drop, Serialize)]
 struct HeadingsReport<'a> {
+    version: u32,
     file: &'a str,
     headings: Vec<Heading>,
 }
 
 #[derive(Drop, Serialize)]
 struct LabelsReport<'a> {
+    version: u32,
     file: &'a str,
     findings: Vec<Finding>,
 }
 
 #[derive(Drop, Serialize)]
 struct LinksReport<'f, 'n> {
+    version: u32,
     file: &'f str,
     links: Vec<LinkRecord<'n>>,
 }
 
 #[derive(Drop, Serialize)]
 struct TocReport<'f, 'n> {
+    version: u32,
     file: &'f str,
     toc: Vec<Entry<'n>>,
 }
 
 #[derive(Drop, Serialize)]
 struct SpansReport<'f, 't, 'l, 'n> {
+    version: u32,
     file: &'f str,
     blocks: Vec<Block<'t>>,
     definitions: &'l [String],
@@ -166,7 +182,7 @@ fn report_text(
     match wish.task {
         Task::Outline => report_outline(alloc, wish, file, text, options),
         Task::Events => report_events(alloc, wish, file, text, options),
-        Task::Html => report_html(alloc, format, file, text, options),
+        Task::Html => report_html(alloc, wish, file, text, options),
         Task::Tree => report_tree(alloc, format, file, text, options),
         _ if wish.has_toc => report_toc(alloc, format, file, text, options),
         _ => report_headings(alloc, format, file, text, options),
@@ -241,10 +257,13 @@ fn outline_json(
     requires size { IsSmall text.now }
     requires built { IsWithoutMdx options.now }
 {
-    let all = outline_blocks(alloc, text, options)?;
+    let mut all = outline_blocks(alloc, text, options)?;
+    let columns = Columns::new(alloc, text.as_bytes())?;
+    set_block_columns(&columns, all.blocks.as_mut_slice());
     json(
         alloc,
         &OutlineReport {
+            version: VERSION,
             file,
             blocks: all.blocks,
             definitions: &all.definitions,
@@ -298,15 +317,20 @@ fn spans_json(
     file: &str,
     text: &str,
     options: &ParseOptions,
-    inlines: Vec<Span<'_>>,
+    found: Vec<Span<'_>>,
 ) -> Result<String, Message>
     requires size { IsSmall text.now }
     requires built { IsWithoutMdx options.now }
 {
-    let all = outline_blocks(alloc, text, options)?;
+    let mut inlines = found;
+    let mut all = outline_blocks(alloc, text, options)?;
+    let columns = Columns::new(alloc, text.as_bytes())?;
+    set_block_columns(&columns, all.blocks.as_mut_slice());
+    set_span_columns(&columns, inlines.as_mut_slice());
     json(
         alloc,
         &SpansReport {
+            version: VERSION,
             file,
             blocks: all.blocks,
             definitions: &all.definitions,
@@ -356,13 +380,21 @@ fn report_events(
     if wish.format == Format::Text {
         return print(alloc, &events);
     }
-    let events = records(alloc, &events)?;
-    json(alloc, &EventsReport { file, events })
+    let columns = Columns::new(alloc, text.as_bytes())?;
+    let events = records(alloc, &columns, &events)?;
+    json(
+        alloc,
+        &EventsReport {
+            version: VERSION,
+            file,
+            events,
+        },
+    )
 }
 
 fn report_html(
     alloc: Global,
-    format: Format,
+    wish: Wish<'_>,
     file: &str,
     text: &str,
     options: &ParseOptions,
@@ -370,10 +402,17 @@ fn report_html(
     requires size { IsSmall text.now }
     requires built { IsWithoutMdx options.now }
 {
-    let html = render(alloc, text, options)?;
-    match format {
+    let html = html_of(alloc, wish.html, file, text, options)?;
+    match wish.format {
         Format::Text => Ok(html),
-        Format::Json => json(alloc, &HtmlReport { file, html }),
+        Format::Json => json(
+            alloc,
+            &HtmlReport {
+                version: VERSION,
+                file,
+                html,
+            },
+        ),
     }
 }
 
@@ -395,7 +434,16 @@ fn report_headings(
     let mut headings = all.found;
     end_sections(&mut headings, text.len());
     if format == Format::Json {
-        return json(alloc, &HeadingsReport { file, headings });
+        let columns = Columns::new(alloc, text.as_bytes())?;
+        set_heading_columns(&columns, headings.as_mut_slice());
+        return json(
+            alloc,
+            &HeadingsReport {
+                version: VERSION,
+                file,
+                headings,
+            },
+        );
     }
     let mut lines = String::new(alloc);
     push_headings(&mut lines, &headings)?;
@@ -414,9 +462,18 @@ fn report_toc(
 {
     let nodes = read_nodes(alloc, text, options)?;
     let anchors = anchors(alloc, &nodes)?;
-    let toc = entries(alloc, &nodes, &anchors)?;
+    let mut toc = entries(alloc, &nodes, &anchors)?;
     if format == Format::Json {
-        return json(alloc, &TocReport { file, toc });
+        let columns = Columns::new(alloc, text.as_bytes())?;
+        set_entry_columns(&columns, toc.as_mut_slice());
+        return json(
+            alloc,
+            &TocReport {
+                version: VERSION,
+                file,
+                toc,
+            },
+        );
     }
     let mut lines = String::new(alloc);
     push_entries(&mut lines, &toc)?;
@@ -434,14 +491,16 @@ fn report_tree(
     requires size { IsSmall text.now }
     requires built { IsWithoutMdx options.now }
 {
-    let nodes = read_nodes(alloc, text, options)?;
+    let mut nodes = read_nodes(alloc, text, options)?;
+    let columns = Columns::new(alloc, text.as_bytes())?;
+    set_node_columns(&columns, nodes.as_mut_slice());
     let mut tree = String::new(alloc);
     if format == Format::Text {
         push_tree(alloc, &mut tree, &nodes)?;
         tree.push_str("\n")?;
         return Ok(tree);
     }
-    tree.push_str("{\"file\":")?;
+    write!(tree, "{{\"version\":{VERSION},\"file\":")?;
     tree.push_str(json(alloc, &file)?.as_str())?;
     tree.push_str(",\"tree\":")?;
     push_tree(alloc, &mut tree, &nodes)?;
@@ -463,7 +522,7 @@ fn report_links(
     let anchors = anchors(alloc, &nodes)?;
     let links = links(alloc, &nodes, &anchors)?;
     let findings = count_broken(&links);
-    let text = links_text(alloc, format, file, links)?;
+    let text = links_text(alloc, format, file, text, links)?;
     Ok(Report { text, findings })
 }
 
@@ -471,14 +530,25 @@ fn links_text(
     alloc: Global,
     format: Format,
     file: &str,
-    links: Vec<LinkRecord<'_>>,
+    text: &str,
+    found: Vec<LinkRecord<'_>>,
 ) -> Result<String, Message> {
+    let mut links = found;
     if format == Format::Json {
-        return json(alloc, &LinksReport { file, links });
+        let columns = Columns::new(alloc, text.as_bytes())?;
+        set_link_columns(&columns, links.as_mut_slice());
+        return json(
+            alloc,
+            &LinksReport {
+                version: VERSION,
+                file,
+                links,
+            },
+        );
     }
-    let mut text = String::new(alloc);
-    push_links(&mut text, &links)?;
-    Ok(text)
+    let mut lines = String::new(alloc);
+    push_links(&mut lines, &links)?;
+    Ok(lines)
 }
 
 fn report_labels(
@@ -495,7 +565,7 @@ fn report_labels(
     let (events, state) = parse_inlines(alloc, text, options)?;
     let found = findings(alloc, &events, &state, &wanted)?;
     let count = found.len();
-    let text = labels_text(alloc, wish.format, file, found)?;
+    let text = labels_text(alloc, wish.format, file, text, found)?;
     Ok(Report {
         text,
         findings: count,
@@ -506,12 +576,23 @@ fn labels_text(
     alloc: Global,
     format: Format,
     file: &str,
-    findings: Vec<Finding>,
+    text: &str,
+    found: Vec<Finding>,
 ) -> Result<String, Message> {
+    let mut findings = found;
     if format == Format::Json {
-        return json(alloc, &LabelsReport { file, findings });
+        let columns = Columns::new(alloc, text.as_bytes())?;
+        set_finding_columns(&columns, findings.as_mut_slice());
+        return json(
+            alloc,
+            &LabelsReport {
+                version: VERSION,
+                file,
+                findings,
+            },
+        );
     }
-    let mut text = String::new(alloc);
-    push_findings(&mut text, file, &findings)?;
-    Ok(text)
+    let mut lines = String::new(alloc);
+    push_findings(&mut lines, file, &findings)?;
+    Ok(lines)
 }

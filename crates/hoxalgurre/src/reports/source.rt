@@ -1,6 +1,5 @@
 // The labels of links, images and calls, from the pieces of the inline part that they are in.
 
-use crate::reports::meaning::{Spelling, push_reference};
 use markdown_blocks::event::Name;
 use markdown_blocks::label::normal_form;
 use markdown_blocks::message::Message;
@@ -123,20 +122,14 @@ impl Source {
         }
     }
 
-    /// Appends a piece, whose character reference is spelled so.
-    pub(crate) fn push(
-        &mut self,
-        name: Name,
-        piece: &[u8],
-        spelling: Spelling,
-    ) -> Result<(), AllocError> {
+    /// Appends a piece.
+    pub(crate) fn push(&mut self, name: Name, piece: &[u8]) -> Result<(), AllocError> {
         if !self.is_open {
             return Ok(());
         }
         match name {
             Name::SpaceOrTab | Name::BlockQuoteMarker => Ok(()),
             Name::LineEnding => self.push_ending(),
-            Name::CharacterReferenceValue => self.push_named(piece, spelling),
             name if is_mark(name) => self.source.extend_from_slice(piece),
             _ => self.push_both(piece),
         }
@@ -152,9 +145,13 @@ impl Source {
         self.meaning.push_str(str::from_utf8(piece).unwrap_or(""))
     }
 
-    fn push_named(&mut self, piece: &[u8], spelling: Spelling) -> Result<(), AllocError> {
-        self.source.extend_from_slice(piece)?;
-        push_reference(&mut self.meaning, spelling, piece)
+    /// Appends what the character reference means whose pieces were the last.
+    pub(crate) fn push_meant(&mut self, meant: &str) -> Result<(), AllocError> {
+        if self.is_open {
+            self.meaning.push_str(meant)
+        } else {
+            Ok(())
+        }
     }
 
     /// Appends the label that is the text between two brackets, with what it means.
@@ -185,7 +182,7 @@ impl Source {
     }
 }
 
-/// Whether a piece marks an escape or a character reference, and means nothing.
+/// Whether a piece means nothing alone: the mark of an escape, and what a character reference has.
 fn is_mark(name: Name) -> bool {
     matches!(
         name,
@@ -194,5 +191,6 @@ fn is_mark(name: Name) -> bool {
             | Name::CharacterReferenceMarkerNumeric
             | Name::CharacterReferenceMarkerHexadecimal
             | Name::CharacterReferenceMarkerSemi
+            | Name::CharacterReferenceValue
     )
 }

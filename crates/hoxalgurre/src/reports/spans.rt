@@ -3,7 +3,7 @@
 use crate::reports::nodes::{Node, NodeKind, is_block_node, is_image};
 use crate::reports::outline::{is_text, positions};
 use crate::reports::parts::OfParts;
-use crate::reports::position::{Position, push_position};
+use crate::reports::position::{Columns, Position, push_position};
 use crate::reports::tree::type_of;
 use markdown_blocks::event::Event;
 use markdown_blocks::message::Message;
@@ -65,6 +65,13 @@ pub(crate) fn spans<'n>(alloc: Global, nodes: &'n [Node]) -> Result<Vec<Span<'n>
         })?;
     }
     Ok(found)
+}
+
+/// Sets the columns of spans.
+pub(crate) fn set_span_columns(columns: &Columns, spans: &mut [Span]) {
+    for span in spans.iter_mut() {
+        columns.set_both(&mut span.position);
+    }
 }
 
 /// The lines of an outline, those of a block before its inline content.

@@ -2,7 +2,7 @@
 
 use crate::reports::anchors::Anchor;
 use crate::reports::nodes::Node;
-use crate::reports::position::Position;
+use crate::reports::position::{Columns, Position};
 use serde::Serialize;
 use std::alloc::{AllocError, Global};
 
@@ -64,6 +64,13 @@ fn push_entry<'a>(
         position,
     })?;
     Ok(())
+}
+
+/// Sets the columns of entries.
+pub(crate) fn set_entry_columns(columns: &Columns, entries: &mut [Entry]) {
+    for entry in entries.iter_mut() {
+        columns.set_both(&mut entry.position);
+    }
 }
 
 /// Appends the table as Markdown.
