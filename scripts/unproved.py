@@ -1,0 +1,147 @@
+#!/usr/bin/env python3
+"""unproved.py CRATE OUT: builds a program without proof, or the static library hoxalgurre_c, for a first look.
+
+The kit builds proved crates alone. Its `rt try` compiles a program that is not proved, with checks that stop it at an
+index out of bounds, an overflow, a failed unwrap and the like, and keeps no file. So this starts `rt try` with a clang
+that keeps the module, and compiles that module as `rt` does proved ones. Of the library it makes a program first, in a
+copy of the crates, whose `main` calls each of its exports, and gives these their names for C in the module. With another
+kit it may find no module, and says so."""
+import os
+import re
+import shutil
+import stat
+import subprocess
+import sys
+import tempfile
+
+sys.dont_write_bytecode = True
+from rt import list_once, loaded
+
+TOP = os.path.dirname(os.path.dirname(os.path.abspath(__file__)))
+CLANG = """#!/bin/sh
+case " $* " in
+*' -fsanitize=address '*) cp module.bc '{0}/module.bc'; exit 1 ;;
+esac
+exec '{1}/toolchain/bin/clang' "$@"
+"""
+# As the kit compiles a proved program.
+FLAGS = ["--target=x86_64-unknown-linux-gnu", "-march=x86-64", "-mllvm", "-no-trap-after-noreturn", "-ffunction-sections",
+         "-fdata-sections", "-mllvm", "-trap-unreachable", "-mllvm", "-no-x86-call-frame-opt", "-mllvm",
+         "-disable-machine-licm", "-mllvm", "-disable-postra-machine-licm", "-mllvm", "-sink-common-insts=false",
+         "--no-default-config", "-no-canonical-prefixes", "-fintegrated-cc1", "-fno-crash-diagnostics"]
+
+
+def kit_with(kit, folder):
+    """A kit as `kit`, whose clang keeps the module in a folder."""
+    copy = os.path.join(folder, "kit")
+    tools = os.path.join(copy, "toolchain", "bin")
+    os.makedirs(tools)
+    for name in os.listdir(kit):
+        if name != "toolchain":
+            os.symlink(os.path.join(kit, name), os.path.join(copy, name))
+    for name in os.listdir(os.path.join(kit, "toolchain")):
+        if name != "bin":
+            os.symlink(os.path.join(kit, "toolchain", name), os.path.join(copy, "toolchain", name))
+    for name in os.listdir(os.path.join(kit, "toolchain/bin")):
+        if name != "clang":
+            os.symlink(os.path.join(kit, "toolchain/bin", name), os.path.join(tools, name))
+    clang = os.path.join(tools, "clang")
+    with open(clang, "w", encoding="utf-8") as file:
+        file.write(CLANG.format(folder, kit))
+    os.chmod(clang, os.stat(clang).st_mode | stat.S_IXUSR)
+    return copy
+
+
+def lowered(folder, crate):
+    """Has `rt try` lower the program in the folder of a crate, and leaves the module in a folder."""
+    rt = loaded(os.path.realpath(shutil.which("rt") or sys.exit("rt is not on the path")))
+    library = rt.rtlib
+    list_once(library.Crate)
+    library.KIT = kit_with(library.KIT, folder)
+    library.RATTLE = shutil.which("true")
+    os.chdir(crate)
+    return rt.main(["try", "--steps", "1"])
+
+
+# What a `main` that is never called calls an export with, by the types of its parameters.
+ARGUMENTS = {"Global": "rt.alloc()", "&mut HoxalgurreDocument": "&mut HoxalgurreDocument::empty(0)",
+             "&mut HoxalgurrePlace": "&mut HoxalgurrePlace { index: 0, lines: 0 }", "&mut usize": "&mut 0"}
+
+
+def as_program(folder, crate):
+    """A copy of the crates below a static library and of that, as a program. Returns its folder."""
+    lines = [line.split("#")[0].partition(":") for line in open(os.path.join(TOP, "crates.txt"), encoding="utf-8")]
+    own = {name.split()[0]: crates.split() for name, colon, crates in lines if colon}
+    needed, left = set(), [crate]
+    while left:
+        name = left.pop()
+        if name in own and name not in needed:
+            needed.add(name)
+            left += own[name]
+    for name in needed:
+        leave = shutil.ignore_patterns("out", "must-fail")
+        shutil.copytree(os.path.join(TOP, "crates", name), os.path.join(folder, "crates", name), ignore=leave)
+    with open(os.path.join(folder, "crates.txt"), "w", encoding="utf-8") as file:
+        file.write("".join(f"{name}: {' '.join(own[name])}\n" for name in own if name in needed))
+    shutil.copy(os.path.join(TOP, "HANDLES"), folder)
+    source = os.path.join(folder, "crates", crate, "src")
+    text = open(os.path.join(source, "lib.rt"), encoding="utf-8").read()
+    os.remove(os.path.join(source, "lib.rt"))
+    calls = []
+    for name, given in re.findall(r'pub extern "C" fn (\w+)\(\s*(.*?),?\s*\)', text, re.S):
+        types = [part.partition(":")[2].strip() for part in re.split(r",\s*", given)]
+        empty = lambda kind: "&[]" if kind.startswith("&[") else "&mut []" if kind.startswith("&mut [") else "0"
+        calls.append(f"    let _ = {name}({', '.join(ARGUMENTS.get(kind, empty(kind)) for kind in types)});\n")
+    with open(os.path.join(source, "main.rt"), "w", encoding="utf-8") as file:
+        file.write(text + f"\nfn main(rt: HostRuntime) {{\n{''.join(calls)}}}\n")
+    return os.path.join(folder, "crates", crate)
+
+
+def name_exports(kit, crate, module):
+    """Gives the exports of a crate their names for C. Returns the changed module, as text."""
+    text = subprocess.run([f"{kit}/toolchain/bin/clang", "-S", "-emit-llvm", "-Xclang", "-disable-llvm-passes", "-x", "ir", module,
+                           "-o", "-"], capture_output=True, check=True).stdout.decode()
+    text = re.sub(rf'^define internal (.*@)"{crate}::(hoxalgurre_\w+)"\(', r"define \1\2(", text, flags=re.M)
+    text = re.sub(rf'@"{crate}::(hoxalgurre_\w+)"', r"@\1", text)
+    with open(module + ".ll", "w", encoding="utf-8") as file:
+        file.write(text)
+    return module + ".ll"
+
+
+def build(folder, kit, crate, out):
+    is_library = not os.path.isfile(os.path.join(TOP, "crates", crate, "src/main.rt"))
+    place = as_program(folder, crate) if is_library else os.path.join(TOP, "crates", crate)
+    said, module, part = (os.path.join(folder, name) for name in ("said", "module.bc", "program.o"))
+    child = os.fork()
+    if child == 0:
+        with open(said, "wb") as file:
+            os.dup2(file.fileno(), 1)
+            os.dup2(file.fileno(), 2)
+        os._exit(lowered(folder, place) or 0)
+    os.waitpid(child, 0)
+    if not os.path.isfile(module):
+        sys.stderr.write(open(said, encoding="utf-8", errors="replace").read()[-3000:])
+        sys.exit(f"unproved: rt try has lowered nothing of {crate}")
+    module = name_exports(kit, crate, module) if is_library else module
+    sysroot = f"--sysroot={kit}/toolchain"
+    subprocess.run([f"{kit}/toolchain/bin/clang", *FLAGS, sysroot, "-c", "-x", "ir", module, "-o", part, "-fPIC", "-O2"],
+                   check=True)
+    if is_library:
+        subprocess.run(["objcopy", "--localize-symbol=main", part], check=True)
+        subprocess.run(["ar", "rcs", out, part], check=True)
+    else:
+        subprocess.run([f"{kit}/bin/rattle-link", "--target", "x86_64-unknown-linux-gnu", "--toolchain",
+                        f"{kit}/toolchain", "-o", out, part, f"{kit}/c/libos_c.a", f"{kit}/c/liblibc_c.a"], check=True)
+
+
+def main():
+    if len(sys.argv) != 3:
+        sys.exit("usage: unproved.py CRATE OUT")
+    out = os.path.abspath(sys.argv[2])
+    kit = os.path.dirname(os.path.dirname(os.path.realpath(shutil.which("rt") or sys.exit("rt is not on the path"))))
+    with tempfile.TemporaryDirectory(prefix="hoxalgurre-") as folder:
+        build(folder, kit, sys.argv[1], out)
+
+
+if __name__ == "__main__":
+    main()
