@@ -3,9 +3,10 @@
 # PROGRAMS is set, that folder has them under their names).
 #
 # - A line `<!-- run -->` is before a code block: a command, an empty line, and what the command prints. The
-#   command is `(cd crates/NAME && rt try -- ARGUMENTS)`, with `printf '..' |` before it or `< stdin` at its end. Where
-#   the block has the command alone, it prints what the file `stdout` of the crate has. A code block that begins with such
-#   a command and has no such line is refused.
+#   command is `hoxalgurre ARGUMENTS` or `(cd crates/NAME && rt try -- ARGUMENTS)`, with `printf '..' |` before it or
+#   `< stdin` at its end. Where the block has the command alone, it prints what the file `stdout` of the crate has.
+# - A line `<!-- by SCRIPT -->` is before a code block whose commands that step of the gate runs. Any other code block
+#   that begins with a command is refused.
 # - A line `<!-- text -->` is before a fenced block with one line, which `printf '%b'` makes the text of, and a line
 #   `<!-- events SET -->` before a fenced block: what `events SET` prints of that text; or `<!-- parts SET -->`: the same
 #   with a line for each part, its name, the line and column where it begins, and its first byte and the one after it.
@@ -17,7 +18,7 @@
 # `scripts/counts.py` has how many examples there are, and compares the numbers that the pages give.
 set -euo pipefail
 cd "$(dirname "$0")/.."
-exec python3 - *.md docs/*.md examples/*.md <<'PYTHON'
+exec python3 - *.md docs/*.md examples/*.md examples/*/README.md <<'PYTHON'
 import os, re, subprocess, sys
 sys.path.insert(0, "scripts")
 sys.dont_write_bytecode = True
@@ -25,6 +26,10 @@ import counts
 
 SETS = "commonmark|gfm|all|alerts"
 COMMAND = re.compile(r"(?:printf '([^']*)' \| )?\(cd crates/(\w+) && rt (?:try|run)(?: -- ([\w ]+?))?( < stdin)?\)")
+REPORT = re.compile(r"(?:printf '([^']*)' \| )?(hoxalgurre) ([\w ./-]+)()")
+BEGINS = re.compile(r"(?:[A-Z_]+=\S+ )*(?:rt|git|cargo|pip|python3|make|gcc|cd|tar|printf|echo|cmark|hoxalgurre|\(cd|"
+                    r"(?:\.ci|scripts)/\S+)(?: |$)")
+STEPS = open(".ci/run", encoding="utf-8").read()
 SHOWN = re.compile(rf"(`+) ?(\"[^`].*?\") ?\1(?: \(({SETS})\))? → `([^`]*)`")
 passed = failed = 0
 
@@ -116,7 +121,7 @@ def block(page, lines, at):
 def command(page, place, shown):
     """A command with what it prints."""
     empty = shown.index("") if "" in shown else len(shown)
-    found = COMMAND.fullmatch(" ".join(shown[:empty]))
+    found = COMMAND.fullmatch(" ".join(shown[:empty])) or REPORT.fullmatch(" ".join(shown[:empty]))
     if not found:
         sys.exit(f"{place}: not such a command")
     text, name, words, stored = found[1], found[2], (found[3] or "").split(), found[4]
@@ -124,7 +129,9 @@ def command(page, place, shown):
     wanted = "".join(line + "\n" for line in shown[empty + 1:])
     if not wanted:
         wanted = open(f"crates/{name}/stdout", encoding="utf-8").read()
-    compare(place, run(name, words, given), (0, wanted))
+    status, printed = run(name, words, given)
+    # Reports of what is wrong end with status 1 where anything is.
+    compare(place, (status > (words[:1] in (["labels"], ["links"])), printed), (False, wanted))
 
 
 def quoted(place, path, shown):
@@ -143,10 +150,13 @@ def check(page):
     at = 0
     while at < len(lines):
         line, place = lines[at], f"{page}:{at + 1}"
-        mark = re.fullmatch(r"<!-- (run|text|code|events|parts)(?: ([^ ]+))? -->", line)
+        mark = re.fullmatch(r"<!-- (run|by|text|code|events|parts)(?: ([^ ]+))? -->", line)
         if mark and mark[1] == "run":
             shown, at = block(page, lines, at + 1)
             command(page, place, shown)
+        elif mark and mark[1] == "by":
+            shown, at = block(page, lines, at + 1)
+            compare(place, f"scripts/{mark[2]}" in STEPS, True)
         elif mark and mark[1] == "code":
             shown, at = block(page, lines, at + 1)
             quoted(place, mark[2], shown)
@@ -163,10 +173,10 @@ def check(page):
             sys.exit(f"{place}: events without a text")
         elif re.fullmatch(r"```+\w*", line):
             shown, at = block(page, lines, at)
-            if shown and COMMAND.match(shown[0]):
+            if shown and BEGINS.match(shown[0]):
                 sys.exit(f"{place}: a command that is not run")
         else:
-            if line.startswith("    ") and COMMAND.match(line.strip()):
+            if line.startswith("    ") and not lines[at - 1].startswith("    ") and BEGINS.match(line.strip()):
                 sys.exit(f"{place}: a command that is not run")
             for _, text, chosen, wanted in SHOWN.findall(line.replace("\\|", "|") if line.startswith("|") else line):
                 status, outline = run("blocks", [chosen or "commonmark"], literal(text))

@@ -1,12 +1,12 @@
 #!/usr/bin/env bash
-# Tries `scripts/vendor.sh`, and what the README says of how to depend on the library.
+# Tries `scripts/vendor.sh`, and what docs/api.md says of how to depend on the library.
 #
 # In a copy of this repository: a call into itself, also by a symbolic link, or onto a crate of the user's is refused and
 # changes nothing; a call brings the crates, the pages and the commit; a second call brings what is new, and removes a
 # crate that went, and no crate of the user's; a library over `markdown_blocks` comes where it is named, and goes where it
-# no longer is. Then, in a folder that `scripts/vendor.sh` has made, `rt ci` proves and runs
-# the program of the README, and it prints what the README says: `rt ci` keeps what it has proved of the library in this
-# repository, and does not prove it again. `--copies` leaves the program out.
+# no longer is. Then, in a folder that `scripts/vendor.sh` has made, `rt ci` proves and runs the program of docs/api.md,
+# and it prints what is said there: `rt ci` keeps what it has proved of the library in this repository, and does not
+# prove it again. `--copies` leaves the program out.
 set -euo pipefail
 cd "$(dirname "$0")/.."
 work=$(mktemp -d)
@@ -105,16 +105,17 @@ if [ "${1:-}" = --copies ]; then
     exit 0
 fi
 
-# The program of the README.
+# The program of docs/api.md.
 mine=$work/mine
 scripts/vendor.sh "$mine"
-mkdir -p "$mine/crates/hello/src"
-echo "hello: markdown_blocks" >>"$mine/crates.txt"
-python3 - README.md "$mine/crates/hello" <<'PYTHON'
+mkdir -p "$mine/crates/words/src"
+echo "words: markdown_blocks" >>"$mine/crates.txt"
+python3 - docs/api.md "$mine/crates/words" <<'PYTHON'
 import re, sys
 page, crate = sys.argv[1:]
 text = open(page, encoding="utf-8").read()
-for path, mark in (("src/main.rt", "<!-- crates/hello/src/main.rt -->"), ("stdout", "<!-- crates/hello/stdout -->")):
+for path in ("src/main.rt", "stdin", "stdout"):
+    mark = f"<!-- crates/words/{path} -->"
     found = re.findall(re.escape(mark) + r"\n```\w*\n(.*?\n)```\n", text, re.S)
     if len(found) != 1:
         sys.exit(f"{page}: {mark} is there {len(found)} times")

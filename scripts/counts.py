@@ -2,7 +2,7 @@
 """counts.py: compares how many there are of each thing that the gate tries with `counts.txt`.
 
     scripts/counts.py                 the must-fail edits, the wrong bodies, the rows and the texts of the repository, the
-                                      form of each edit, and the numbers that the pages give
+                                      form of each edit, the numbers that the pages give, and how many words they have
     scripts/counts.py --ci FILE       what `rt ci` has printed of must-fail edits: all refused, and none bad or not tried
     scripts/counts.py NAME NUMBER     what a check has counted
 """
@@ -20,6 +20,9 @@ PAGES = [
     ("texts of the inline definition", "docs/definitions-inlines.md", r"([\d,]+) rows, texts with their forests"),
     ("wrong inline definitions", "docs/definitions-inlines.md", r"([\d,]+) wrong definitions of one line"),
 ]
+
+# How many words a page has at most, and all pages of the top and of docs/ together.
+MOST_WORDS = [("README.md", 1_200), ("*.md", 38_000)]
 
 
 def counts():
@@ -102,6 +105,18 @@ def check_table(edits):
     return int(sorted(names) != sorted(files))
 
 
+def check_words():
+    """Compares how many words the pages have with how many they may have."""
+    pages = listed("*.md") + listed("docs/*.md")
+    failed = 0
+    for name, most in MOST_WORDS:
+        words = sum(len(read(page).split()) for page in pages if name in (page, "*.md"))
+        if words > most:
+            print(f"counts: {words} words in {name}, and not {most} at most")
+            failed += 1
+    return failed
+
+
 def check_all():
     """Compares all that can be counted without a run."""
     failed = 0
@@ -133,7 +148,7 @@ def check_all():
         if [int(it.replace(",", "")) for it in found] != [counts()[name]]:
             print(f"{page}: {found} for `{words}`, and counts.txt has {counts()[name]} {name}")
             failed += 1
-    failed += check_table(edits)
+    failed += check_table(edits) + check_words()
     print(f"counts: {len(edits)} must-fail edits, {len(bodies)} wrong bodies, {rows} rows, {failed} failed")
     return failed
 

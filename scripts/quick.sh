@@ -168,10 +168,10 @@ where_changed '^scripts/check_states\.py' scripts/check_states.py
 where_changed '^scripts/does_not_compile\.sh|^crates/examples_api/' scripts/does_not_compile.sh
 where_changed '^scripts/wrong_bodies\.sh|^scripts/wrong-bodies/' scripts/wrong_bodies.sh
 where_changed '^scripts/(check_)?vendor\.sh' scripts/check_vendor.sh --copies
-where_changed '^scripts/c_header\.py|^include/' scripts/c_header.py --check
+where_changed '^scripts/c_header\.py|^(include|c)/' scripts/c_header.py --check
 where_built '^scripts/check_pages\.sh|\.md$' "blocks events hoxalgurre examples_references" scripts/check_pages.sh
 where_built '^scripts/check_texts\.sh|^examples/texts/' "hoxalgurre" scripts/check_texts.sh
-where_built '^scripts/(check_c\.sh|c_header\.py)|^(examples/(c|python)|include)/' "events" scripts/check_c.sh
+where_built '^scripts/(check_c\.sh|c_)|^(examples/c|include|c)/' "events blocks" scripts/check_c.sh
 where_built '^scripts/refuse(_memory\.sh|\.c)' "blocks events test_library examples_references hoxalgurre" scripts/refuse_memory.sh
 where_built '^scripts/man\.py|^docs/hoxalgurre\.1' "hoxalgurre" scripts/man.py --check
 where_built '^scripts/pictures\.py|^docs/.*\.svg' "events" scripts/pictures.py --check
