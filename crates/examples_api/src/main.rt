@@ -52,6 +52,20 @@ fn block_names(alloc: Global, text: &str, word: &str) -> Result<String, Message>
     Ok(names)
 }
 
+/// The lines of a text that a block begins on, from 1.
+fn first_lines(alloc: Global, text: &str) -> Result<Vec<usize>, Message>
+    requires { IsSmall text.now }
+{
+    let (events, _state) = parse(alloc, text, &ParseOptions::GFM)?;
+    let mut lines = Vec::new(alloc);
+    for event in events.iter() {
+        if event.kind == Kind::Enter && is_block(event.name) {
+            lines.push(event.point.line)?;
+        }
+    }
+    Ok(lines)
+}
+
 /// How many labels a text defines, where it is short enough.
 fn label_count(alloc: Global, text: &str) -> Result<Option<usize>, Message> {
     if text.len() > MAX_LEN {
@@ -161,6 +175,7 @@ fn report(alloc: Global) -> Result<String, Message> {
         "{}",
         block_names(alloc, "a|b\n-|-\n\n[^f]: g", "gfm")?
     )?;
+    writeln!(lines, "{:?}", first_lines(alloc, "# a\n\nb\n")?)?;
     writeln!(lines, "{:?}", label_count(alloc, "[a]: b\n\n[^c]: d")?)?;
     writeln!(
         lines,

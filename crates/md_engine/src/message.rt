@@ -1,6 +1,6 @@
 // The one refusal.
 
-use std::alloc::AllocError;
+use std::alloc::{AllocError, AllocFailed};
 use std::error::Error;
 use std::fmt::{self, Display, Formatter, Write};
 
@@ -11,6 +11,13 @@ pub struct Message;
 /// So that `?` hands on what an allocation refused.
 impl From<AllocError> for Message {
     fn from(_refused: AllocError) -> Message {
+        Message
+    }
+}
+
+/// So that `?` hands on that a value could not be stored, as `Vec::push` answers it. The value is dropped.
+impl<T: Drop> From<AllocFailed<T>> for Message {
+    fn from(_refused: AllocFailed<T>) -> Message {
         Message
     }
 }
