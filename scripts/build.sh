@@ -1,23 +1,30 @@
 #!/usr/bin/env bash
-# Builds what users get: build.sh FOLDER, or build.sh --unproved FOLDER. FOLDER gets the program `hoxalgurre`,
-# libhoxalgurre.a and libhoxalgurre.so for C (c_library.sh), and the file HOW, which says `proved` or `unproved`.
+# Builds what users get: build.sh [--left|--unproved] FOLDER. FOLDER gets the program `hoxalgurre`, the static library of
+# the crate hoxalgurre_c, libhoxalgurre.a and libhoxalgurre.so for C (c_library.sh), and the file HOW, which says
+# `proved` or `unproved`.
 #
-# `rt ci` proves and builds both in a copy of the crates below them; what it has kept of earlier runs on this machine, also of
-# the gate, it does not prove again. --unproved builds without proof (unproved.py).
+# `rt ci` proves and builds both in a copy of the crates below them; some kits keep what they proved before on this
+# machine. --left takes what `rt ci` has just left in this repository, and so does a call without it where the gate has
+# passed on the same commit (out/gate). --unproved builds without proof (unproved.py).
 set -euo pipefail
 cd "$(dirname "$0")/.."
-unproved=
-if [ "${1:-}" = --unproved ]; then
-    unproved=yes
-    shift
-fi
+how=
+case ${1:-} in
+    --left | --unproved)
+        how=${1#--}
+        shift
+        ;;
+esac
 if [ $# -ne 1 ]; then
-    echo "usage: scripts/build.sh [--unproved] FOLDER" >&2
+    echo "usage: scripts/build.sh [--left|--unproved] FOLDER" >&2
     exit 2
+fi
+if [ -z "$how" ] && [ -f out/gate ] && [ "$(cat out/gate)" = "$(git rev-parse HEAD)" ] && \
+    [ -z "$(git status --porcelain -- crates crates.txt HANDLES)" ]; then
+    how=left
 fi
 mkdir -p "$1"
 out=$(cd "$1" && pwd)
-kit=$(dirname "$(rt doc)")
 work=$(mktemp -d)
 trap 'rm -rf "$work"' EXIT
 
@@ -50,32 +57,23 @@ proved() {
         exit 1
     }
     cp "$work/crates/hoxalgurre/out/hoxalgurre" "$out/"
-    local crate folder used libraries=(-L "dependency=$kit/rlibs")
-    for crate in $(below hoxalgurre_c); do
-        libraries+=(-L "dependency=$work/crates/$crate/out/rlib")
-    done
-    read -ra used < <(sed -n 's/^hoxalgurre_c[^:]*: *//p' crates.txt)
-    for crate in "${used[@]}"; do
-        folder=$work/crates/$crate/out/rlib
-        [ -d "$folder" ] || folder=$kit/rlibs
-        libraries+=(--extern "$crate=$folder/$crate.rlib")
-    done
-    "$kit/bin/rattle" build --crate-name hoxalgurre_c "$work/crates/hoxalgurre_c/src/lib.rt" --crate-type staticlib \
-        --extern "std=$kit/rlibs/std.rlib" "${libraries[@]}" --antt-project "$kit/rattle/logic/antt-project.json" \
-        --logic-built "$kit/logic_built" --toolchain "$kit/toolchain" -o "$work/libhoxalgurre_c.a" >"$work/said" 2>&1 || {
-        tail -n 30 "$work/said"
-        exit 1
-    }
+    (cd "$work" && cp -r "$OLDPWD/scripts" . && scripts/over_libraries.sh hoxalgurre_c crates/hoxalgurre_c "$used" \
+        "$out/libhoxalgurre_c.a")
 }
 
-if [ -n "$unproved" ]; then
-    scripts/unproved.py hoxalgurre "$out/hoxalgurre" &
-    program=$!
-    scripts/unproved.py hoxalgurre_c "$work/libhoxalgurre_c.a"
-    wait "$program"
-    echo unproved >"$out/HOW"
-else
-    proved
-    echo proved >"$out/HOW"
-fi
-scripts/c_library.sh "$work/libhoxalgurre_c.a" "$out"
+used=$(sed -n 's/^hoxalgurre_c[^:]*: *//p' crates.txt)
+case $how in
+    unproved)
+        scripts/unproved.py hoxalgurre "$out/hoxalgurre" &
+        program=$!
+        scripts/unproved.py hoxalgurre_c "$out/libhoxalgurre_c.a"
+        wait "$program"
+        ;;
+    left)
+        cp crates/hoxalgurre/out/hoxalgurre "$out/"
+        scripts/over_libraries.sh hoxalgurre_c crates/hoxalgurre_c "$used" "$out/libhoxalgurre_c.a"
+        ;;
+    *) proved ;;
+esac
+if [ "$how" = unproved ]; then echo unproved; else echo proved; fi >"$out/HOW"
+scripts/c_library.sh "$out/libhoxalgurre_c.a" "$out"

@@ -8,9 +8,8 @@
 # - two shared libraries of different versions in one process, beside a static one;
 # - the link checker of `examples/c` on the text with planted faults.
 #
-# It takes what `rt ci` has built, or a static library LIBRARY and the programs of the folder PROGRAMS, where these are
-# set. Where the library for C cannot be built over that, `rt ci` makes those below it in a copy of the crates, of what
-# it has kept. With `--fuzz SECONDS SEED` it tries random texts alone.
+# It takes what `rt ci` has built (build.sh), or a static library LIBRARY and the programs of the folder PROGRAMS, where
+# these are set. With `--fuzz SECONDS SEED` it tries random texts alone.
 set -euo pipefail
 cd "$(dirname "$0")/.."
 seconds=5
@@ -22,53 +21,12 @@ fi
 scripts/c_header.py --check
 events=${PROGRAMS:-crates/events/out}/events
 blocks=${PROGRAMS:-crates/blocks/out}/blocks
-kit=$(dirname "$(rt doc)")
 work=$(mktemp -d)
 trap 'rm -rf "$work"' EXIT
 
-# `rt ci` proves the static library and keeps none. It is built over the libraries that `rt ci` has left, as `rt lib`
-# builds it. Where one is missing, or is left by `rt check`, the copy has them.
 library=${LIBRARY:-$work/libhoxalgurre_c.a}
 if [ ! -f "$library" ]; then
-    below=$(python3 - crates.txt <<'PYTHON'
-import sys
-lines = [line.split("#")[0].partition(":") for line in open(sys.argv[1], encoding="utf-8")]
-below = {name.split()[0]: crates.split() for name, colon, crates in lines if colon}
-needed, left = set(), ["hoxalgurre_c"]
-while left:
-    name = left.pop()
-    if name in below and name not in needed:
-        needed.add(name)
-        left += below[name]
-print(" ".join(sorted(needed)))
-PYTHON
-    )
-    # Builds the library over the libraries below a folder of crates.
-    build() {
-        local crate libraries=(-L "dependency=$kit/rlibs")
-        for crate in $below; do
-            libraries+=(-L "dependency=$1/$crate/out/rlib")
-            [ "$crate" = hoxalgurre_c ] || [ -f "$1/$crate/out/rlib/$crate.rlib/format" ] || return 1
-        done
-        for crate in $(sed -n 's/^hoxalgurre_c[^:]*: *//p' crates.txt); do
-            libraries+=(--extern "$crate=$1/$crate/out/rlib/$crate.rlib")
-        done
-        "$kit/bin/rattle" build --crate-name hoxalgurre_c "$1/hoxalgurre_c/src/lib.rt" --crate-type staticlib \
-            --extern "std=$kit/rlibs/std.rlib" "${libraries[@]}" --antt-project "$kit/rattle/logic/antt-project.json" \
-            --logic-built "$kit/logic_built" --toolchain "$kit/toolchain" -o "$library" >"$work/built" 2>&1
-    }
-    build crates || {
-        mkdir "$work/crates"
-        cp HANDLES "$work/"
-        for crate in $below; do
-            tar -C crates --exclude=out --exclude=must-fail -cf - "$crate" | tar -C "$work/crates" -xf -
-            grep -E "^$crate( |:)" crates.txt >>"$work/crates.txt"
-        done
-        (cd "$work" && rt ci) >"$work/built" 2>&1 && build "$work/crates" || {
-            tail -n 30 "$work/built"
-            exit 1
-        }
-    }
+    scripts/build.sh --left "$work" || scripts/build.sh "$work"
 fi
 scripts/c_library.sh "$library" "$work"
 

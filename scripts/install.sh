@@ -8,8 +8,9 @@
 #     PREFIX/share/                             completions for bash, zsh and fish
 #     PREFIX/share/doc/hoxalgurre/BUILT         the commit, and what was proved
 #
-# It needs the kit, gcc and Python 3. Only proved crates are built: what `rt ci` has kept on this machine it does not prove
-# again. --unproved builds without proof, with checks that stop the program where a proof would have to rule something out.
+# It needs the kit, gcc and Python 3. Only proved crates are built, quickly where the gate has passed on this commit
+# (build.sh). --unproved builds without proof, with checks that stop the program where a proof would have to rule
+# something out.
 # The folder may be moved. Where BUILT is set, that folder has what build.sh makes.
 set -euo pipefail
 cd "$(dirname "$0")/.."

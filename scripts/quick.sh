@@ -6,7 +6,7 @@
 # A crate changed if a file of it or its line in `crates.txt` did.
 #
 # - It proves, tests and runs the crates that changed, and above them each library that is short to prove (`rt ci
-#   NAME..`, which keeps what passes for the gate).
+#   NAME..`, which keeps what passes for the gate; where the kit has no such call, `rt check` and `rt test`).
 # - Without proof it runs the programs above that have a file `stdout`, and compares what they print, the tests above,
 #   the rows of the bench on the parser and on the plain program, and the limits of steps (`scripts/steps.py`).
 # - It runs `scripts/counts.py`, and each script that changed, or whose examples or pages did, if it needs no long
@@ -119,8 +119,15 @@ try_rows() {
 step scripts/counts.py
 if [ -s "$work/proved" ]; then
     echo "quick: proves $(cat "$work/proved")"
-    # shellcheck disable=SC2046 # names of crates
-    rt ci $(cat "$work/proved")
+    if rt help 2>&1 | grep -q 'rt ci .*NAME'; then
+        # shellcheck disable=SC2046 # names of crates
+        rt ci $(cat "$work/proved")
+    else
+        for name in $(cat "$work/proved"); do
+            step env -C "crates/$name" "$top/scripts/rt.py" check
+            step env -C "crates/$name" "$top/scripts/rt.py" test
+        done
+    fi
     for name in $(cat "$work/programs"); do
         step try_program "$name"
     done
