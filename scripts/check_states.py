@@ -1,19 +1,19 @@
 #!/usr/bin/env python3
 """Whether a program can call each state function and each resolver by its path in `markdown_blocks::construct`.
 
-Writes a program that calls all of them with a tokenizer, in a copy of the crates, and has `rt try` compile it: no proof
-is needed, since only names and signatures are looked at. Prints what is missing and ends with 'N of M can be called';
-status 1 where one cannot.
+Writes a program that calls all of them with a tokenizer, in a copy of the crates, and has `rt try` lower it: no proof
+is needed, since only names and signatures are looked at, and nothing is run. Prints what is missing and ends with 'N of M
+can be called'; status 1 where one cannot.
 """
 import os
 import re
 import shutil
-import subprocess
 import sys
 import tempfile
 
 sys.dont_write_bytecode = True
 import counts
+from unproved import lowering
 
 STATES = {
     "blank_line": "start after",
@@ -126,10 +126,11 @@ def main():
             lines = ["" if path in missing else line for path, line in wanted]
             with open(os.path.join(source, "main.rt"), "w", encoding="utf-8") as program:
                 program.write(HEAD + "\n".join(lines) + "\n" + MAIN)
-            run = subprocess.run([os.path.join(top, "scripts/rt.py"), "try"], cwd=os.path.dirname(source), stdin=subprocess.DEVNULL, check=False,
-                                 stdout=subprocess.PIPE, stderr=subprocess.STDOUT, text=True)
+            with tempfile.TemporaryDirectory(prefix="hoxalgurre-") as folder:
+                said = lowering(folder, os.path.dirname(source))
+                is_lowered = os.path.isfile(os.path.join(folder, "module.bc"))
             found = {}
-            for error in re.finditer(r"^src/main\.rt:(\d+):\d+: error\[[\w-]+\]: (.*)$", run.stdout, re.M):
+            for error in re.finditer(r"^src/main\.rt:(\d+):\d+: error\[[\w-]+\]: (.*)$", said, re.M):
                 at = int(error.group(1)) - first
                 if 0 <= at < len(wanted):
                     found[wanted[at][0]] = error.group(2)
@@ -138,8 +139,8 @@ def main():
             missing.update(found)
     for path, why in missing.items():
         print(f"{path}: {why}")
-    if "all" not in run.stdout.split():
-        sys.exit("the program does not run:\n" + run.stdout[-1500:])
+    if not is_lowered:
+        sys.exit("the program is not lowered:\n" + said[-1500:])
     is_other = counts.wrong_count("states and resolvers", len(wanted))
     print(f"states: {len(wanted) - len(missing)} of {len(wanted)} can be called")
     sys.exit(bool(missing) or is_other)

@@ -258,6 +258,8 @@ def frontmatter_cases():
     for words in ([], *(["-c", constructs] for constructs in SETS)):
         yield Case(["headings", *words], WITH_FRONT, stdin=FRONT)
         yield Case(["headings", *words, "--no-frontmatter"], WITHOUT_FRONT, stdin=FRONT)
+    # CommonMark has no tables, whether it has frontmatter or not.
+    yield Case(["html", "-c", "commonmark"], b"<p>|b|\n|-|</p>\n", stdin=b"---\na\n---\n|b|\n|-|\n")
     text = FRONT + b"\n|b|\n|-|\n\n[^c]: d\n"
     model = models([(text, "all")])[text, "all"]
     for task in REPORTS[:4]:
@@ -406,6 +408,8 @@ def link_report_cases(folder):
     yield from group.cases()
     both = b"==> - <==\n1:1 0..7 link #b, no such heading\n==> empty.md <==\n"
     yield Case(["links", "-", "empty.md"], both, b"", 1, folder, b"[a](#b)")
+    # `%` and one hexadecimal digit are no escape.
+    yield Case(["links"], b"3:1 5..14 link #%3z, no such heading\n", status=1, stdin=b"# 0\n\n[a](#%3z)")
     yield Case(["links"], b"", b"hoxalgurre: write failed\n", 4, stdin=b"[a](b)", how="full")
 
 

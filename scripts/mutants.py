@@ -13,19 +13,23 @@ import re
 import subprocess
 import sys
 import tempfile
+import time
 from collections import namedtuple
 from concurrent.futures import ThreadPoolExecutor
 
 os.chdir(os.path.join(os.path.dirname(os.path.abspath(__file__)), ".."))
 sys.path.insert(0, "scripts")
 sys.dont_write_bytecode = True
+from unproved import build_for_tests
 
 CRATES = ("hoxalgurre", "markdown_html", "md_program", "hoxalgurre_c")
 # The report that most likely changes, by the name of the file.
 REPORTS = {"events": "events", "outline": "outline", "position": "outline", "headings": "headings", "labels": "labels",
            "references": "labels", "layer": "links", "anchors": "links", "links": "links", "toc": "headings",
            "tree": "tree", "spans": "outline", "source": "tree", "builder": "tree"}
-LEAST, LEAST_SCORE = 393, 97
+# The program, or what the first argument of a caller is, by the crate.
+PROGRAMS = {"md_program": "blocks", "hoxalgurre_c": "%c"}
+LEAST, LEAST_SCORE = 396, 97
 
 Mutant = namedtuple("Mutant", "number file comment old new")
 
@@ -34,34 +38,15 @@ unsafe extern "C" { safe fn mutant_number() -> u32; }
 pub fn is_wrong(number: u32) -> bool { mutant_number() == number }
 """
 
-# The number, and a copy of the program in a file: `rt try` keeps none.
+# The number.
 IN_C = r"""
 #include <stdint.h>
-#include <stdio.h>
 #include <stdlib.h>
-#include <string.h>
 uint32_t mutant_number(void) {
     static long number = -1;
     const char *given = getenv("MUTANT");
     if (number < 0) number = given ? atol(given) : 0;
     return (uint32_t)number;
-}
-__attribute__((constructor)) static void keep(void) {
-    char line[4096], part[65536], *path = NULL;
-    size_t count;
-    FILE *maps = fopen("/proc/self/maps", "r");
-    while (maps && !path && fgets(line, sizeof line, maps)) {
-        unsigned long from, to;
-        if (sscanf(line, "%lx-%lx", &from, &to) == 2 && from <= (unsigned long)keep && (unsigned long)keep < to)
-            path = strchr(line, '/');
-    }
-    if (maps) fclose(maps);
-    if (!path) return;
-    path[strcspn(path, "\n")] = 0;
-    FILE *in = fopen(path, "rb"), *out = in ? fopen("KEPT", "wbx") : NULL;
-    while (out && (count = fread(part, 1, sizeof part, in)) > 0) fwrite(part, 1, count, out);
-    if (out) fclose(out);
-    if (in) fclose(in);
 }
 """
 
@@ -146,7 +131,7 @@ def copied(work, found):
         crates = re.sub(rf"^{crate}:", f"{crate}: mutant", crates, flags=re.M)
     crates = crates.replace("\nhoxalgurre: ", "\nhoxalgurre: hoxalgurre_c ")
     for name, text in (("crates.txt", crates), ("crates/mutant/src/lib.rt", LIBRARY),
-                       ("crates/mutant/c/mutant.c", IN_C.replace("KEPT", f"{work}/kept"))):
+                       ("crates/mutant/c/mutant.c", IN_C)):
         with open(f"{work}/{name}", "w", encoding="utf-8") as file:
             file.write(text)
     exports = f"{work}/crates/hoxalgurre_c/src/lib.rt"
@@ -162,13 +147,8 @@ def copied(work, found):
 def built(work, found):
     """The program with all wrong bodies."""
     copied(work, found)
-    ran = subprocess.run([os.path.abspath("scripts/rt.py"), "try", "--", "--version"], cwd=f"{work}/crates/hoxalgurre", capture_output=True, text=True,
-                         stdin=subprocess.DEVNULL, env={**os.environ, "RT_ALLOW_C": "mutant"})
-    if not os.path.isfile(f"{work}/kept"):
-        sys.exit(f"mutants: no program is built\n{ran.stdout[-1000:]}\n{ran.stderr[-6000:]}")
     os.makedirs(f"{work}/programs")
-    os.rename(f"{work}/kept", f"{work}/programs/hoxalgurre")
-    os.chmod(f"{work}/programs/hoxalgurre", 0o755)
+    build_for_tests(f"{work}/crates/hoxalgurre", f"{work}/programs/hoxalgurre", f"{work}/crates/mutant/c/mutant.c")
     for name in ("blocks", "events"):
         with open(f"{work}/programs/{name}", "w", encoding="utf-8") as file:
             file.write(f'#!/bin/sh\nexec "{work}/programs/hoxalgurre" %{name} "$@"\n')
@@ -210,17 +190,22 @@ class Tests:
         self.programs = programs
         model_of = lambda text, constructs: models([(text, constructs)])[text, constructs]
         self.cases = [*all_cases(folder, True), *c_cases(Case, model_of)]
-        self.refusals = [0] * len(self.cases)
+        self.refusals, self.seconds = [0] * len(self.cases), [0.0] * len(self.cases)
 
     def refused_by(self, number, report=None):
-        """What refuses a wrong body, or None: the cases of its report first, and of these those that refused most."""
+        """What refuses a wrong body, or None: the cases of its report first, of these those that refused most, and of these
+        the shortest."""
         environment = {**os.environ, "MUTANT": str(number)}
-        cases = enumerate(self.cases)
-        for at, case in sorted(cases, key=lambda it: (it[1].words[:1] != [report], -self.refusals[it[0]])):
+        order = [(report not in (case.program, *case.words[:1]), -refusals, seconds, at)
+                 for at, (case, refusals, seconds) in enumerate(zip(self.cases, self.refusals, self.seconds))]
+        for *_, at in sorted(order):
+            case, begun = self.cases[at], time.monotonic()
             try:
                 is_right = case.holds(case.run([os.path.join(self.programs, case.program)], environment))
             except subprocess.TimeoutExpired:
                 is_right = False
+            if not number:
+                self.seconds[at] = time.monotonic() - begun
             if not is_right:
                 self.refusals[at] += 1
                 return ascii(case.words[:6])
@@ -232,8 +217,10 @@ class Tests:
 
 
 def report_of(file):
-    """The report that most likely changes, by the file of a wrong body."""
+    """The report or the program that most likely changes, by the file of a wrong body."""
     name = os.path.basename(file).removesuffix(".rt")
+    if file.split("/")[0] in PROGRAMS:
+        return PROGRAMS[file.split("/")[0]]
     return "html" if file.startswith("markdown_html/") or name == "html" else REPORTS.get(name)
 
 

@@ -18,9 +18,13 @@ sys.dont_write_bytecode = True
 from rt import list_once, loaded
 
 TOP = os.path.dirname(os.path.dirname(os.path.abspath(__file__)))
-CLANG = """#!/bin/sh
+CLANG = """#!/bin/bash
 case " $* " in
-*' -fsanitize=address '*) cp module.bc '{0}/module.bc'; exit 1 ;;
+*' -fsanitize=address '*)
+    cp module.bc '{0}/module.bc'
+    exit 1
+    ;;
+*' --defined-only '*) exec -a llvm-nm '{1}/toolchain/bin/clang' "$@" ;;
 esac
 exec '{1}/toolchain/bin/clang' "$@"
 """
@@ -29,6 +33,8 @@ FLAGS = ["--target=x86_64-unknown-linux-gnu", "-march=x86-64", "-mllvm", "-no-tr
          "-fdata-sections", "-mllvm", "-trap-unreachable", "-mllvm", "-no-x86-call-frame-opt", "-mllvm",
          "-disable-machine-licm", "-mllvm", "-disable-postra-machine-licm", "-mllvm", "-sink-common-insts=false",
          "--no-default-config", "-no-canonical-prefixes", "-fintegrated-cc1", "-fno-crash-diagnostics"]
+# What makes a program of `rt try` small, so that it compiles and runs at little cost.
+PASSES = "globaldce,function(sroa,instcombine<no-verify-fixpoint>,simplifycfg)"
 
 
 def kit_with(kit, folder):
@@ -108,37 +114,86 @@ def name_exports(kit, crate, module):
     return module + ".ll"
 
 
-def build(folder, kit, crate, out):
-    is_library = not os.path.isfile(os.path.join(TOP, "crates", crate, "src/main.rt"))
-    place = as_program(folder, crate) if is_library else os.path.join(TOP, "crates", crate)
-    said, module, part = (os.path.join(folder, name) for name in ("said", "module.bc", "program.o"))
+def lowering(folder, place):
+    """What `rt try` says where it lowers the program in the folder of a crate, whose module it leaves in a folder."""
+    said = os.path.join(folder, "said")
     child = os.fork()
     if child == 0:
         with open(said, "wb") as file:
             os.dup2(file.fileno(), 1)
             os.dup2(file.fileno(), 2)
-        os._exit(lowered(folder, place) or 0)
+        try:
+            lowered(folder, place)
+        except SystemExit as stopped:
+            print(stopped)
+        finally:
+            sys.stdout.flush()
+            sys.stderr.flush()
+            os._exit(0)
     os.waitpid(child, 0)
+    with open(said, encoding="utf-8", errors="replace") as file:
+        return file.read()
+
+
+def module_of(folder, place):
+    """The module of the program in the folder of a crate."""
+    said, module = lowering(folder, place), os.path.join(folder, "module.bc")
     if not os.path.isfile(module):
-        sys.stderr.write(open(said, encoding="utf-8", errors="replace").read()[-3000:])
-        sys.exit(f"unproved: rt try has lowered nothing of {crate}")
-    module = name_exports(kit, crate, module) if is_library else module
+        sys.stderr.write(said[-6000:])
+        sys.exit(f"unproved: rt try has lowered nothing of {os.path.basename(place)}")
+    return module
+
+
+def compile_module(kit, module, part, level):
     sysroot = f"--sysroot={kit}/toolchain"
-    subprocess.run([f"{kit}/toolchain/bin/clang", *FLAGS, sysroot, "-c", "-x", "ir", module, "-o", part, "-fPIC", "-O2"],
+    subprocess.run([f"{kit}/toolchain/bin/clang", *FLAGS, sysroot, "-c", "-x", "ir", module, "-o", part, "-fPIC", level],
                    check=True)
+
+
+def link(kit, parts, out):
+    libraries = [f"{kit}/c/libos_c.a", f"{kit}/c/liblibc_c.a"]
+    ran = subprocess.run([f"{kit}/bin/rattle-link", "--target", "x86_64-unknown-linux-gnu", "--toolchain", f"{kit}/toolchain",
+                          "-o", out, *parts, *libraries], capture_output=True, text=True)
+    if ran.returncode:
+        sys.exit(f"unproved: {ran.stderr}")
+
+
+def build(folder, kit, crate, out):
+    is_library = not os.path.isfile(os.path.join(TOP, "crates", crate, "src/main.rt"))
+    place = as_program(folder, crate) if is_library else os.path.join(TOP, "crates", crate)
+    module, part = module_of(folder, place), os.path.join(folder, "program.o")
+    module = name_exports(kit, crate, module) if is_library else module
+    compile_module(kit, module, part, "-O2")
     if is_library:
         subprocess.run(["objcopy", "--localize-symbol=main", part], check=True)
         subprocess.run(["ar", "rcs", out, part], check=True)
     else:
-        subprocess.run([f"{kit}/bin/rattle-link", "--target", "x86_64-unknown-linux-gnu", "--toolchain",
-                        f"{kit}/toolchain", "-o", out, part, f"{kit}/c/libos_c.a", f"{kit}/c/liblibc_c.a"], check=True)
+        link(kit, [part], out)
+
+
+def build_for_tests(place, out, c_file):
+    """Builds the program in the folder of a crate, with the file in C of a crate below it, at the least cost for some
+    thousand short runs: without what is never called, with few passes, and without a sanitizer."""
+    kit = kit_folder()
+    with tempfile.TemporaryDirectory(prefix="hoxalgurre-") as folder:
+        module, small, part, of_c = (os.path.join(folder, name) for name in ("module.bc", "small.bc", "program.o", "c.o"))
+        os.environ["RT_ALLOW_C"] = os.path.basename(os.path.dirname(os.path.dirname(c_file)))
+        subprocess.run(["cc", "-O2", "-fPIC", "-c", c_file, "-o", of_c], check=True)
+        subprocess.run([f"{kit}/toolchain/bin/ld.lld", "-r", f"--lto-newpm-passes={PASSES}", "--lto-emit-llvm",
+                        module_of(folder, place), "-o", small], check=True)
+        compile_module(kit, small, part, "-O0")
+        link(kit, [part, of_c], out)
+
+
+def kit_folder():
+    return os.path.dirname(os.path.dirname(os.path.realpath(shutil.which("rt") or sys.exit("rt is not on the path"))))
 
 
 def main():
     if len(sys.argv) != 3:
         sys.exit("usage: unproved.py CRATE OUT")
     out = os.path.abspath(sys.argv[2])
-    kit = os.path.dirname(os.path.dirname(os.path.realpath(shutil.which("rt") or sys.exit("rt is not on the path"))))
+    kit = kit_folder()
     with tempfile.TemporaryDirectory(prefix="hoxalgurre-") as folder:
         build(folder, kit, sys.argv[1], out)
 

@@ -263,7 +263,6 @@ for number, body in bodies:
     case = f"{body}{number}"
     numbers += f'            "{case}" => {number},\n'
     open(f"{work}/cases/{case}", "w", encoding="utf-8").write(given if body == "Inlines" else "")
-    open(f"{work}/cases/{case}.args", "w").write(case + "\n")
     if body == "Inlines":
         continue
     main += f"""
@@ -328,31 +327,47 @@ shutil.rmtree(f"{work}/crates/test_bench/src")
 os.mkdir(f"{work}/crates/test_bench/src")
 open(f"{work}/crates/test_bench/src/main.rt", "w").write(main)
 PYTHON
-top=$PWD
-(cd "$work/crates/test_bench" && RT_ALLOW_C=mutant "$top/scripts/rt.py" try --steps 1 --seconds 300 --cases "$work/cases" >"$work/said" 2>"$work/ends" </dev/null) || true
 python3 - "$work" scripts/wrong-bodies/*.edit <<'PYTHON'
-import re, sys
+import os, re, subprocess, sys
+from concurrent.futures import ThreadPoolExecutor
+
 sys.path.insert(0, "scripts")
 sys.dont_write_bytecode = True
 import counts
 from first_states import FIRST
 from plain_inlines import is_utf8, printed, rows as inline_rows
+from unproved import build_for_tests
 
 work, *edits = sys.argv[1:]
-ends = open(f"{work}/ends", errors="replace").read()
-parts = re.split(r"^== (Blocks|Plain|Inlines)(\d+)\n", open(f"{work}/said", errors="replace").read(), flags=re.M)
-said = dict(zip(zip(parts[1::3], map(int, parts[2::3])), (it.strip() for it in parts[3::3])))
+program = f"{work}/tried"
+build_for_tests(f"{work}/crates/test_bench", program, f"{work}/crates/mutant/c/mutant.c")
+
+
+def run(case):
+    """What the program prints for a case, and how it ends."""
+    with open(f"{work}/cases/{case}", "rb") as given:
+        try:
+            ran = subprocess.run([program, case], stdin=given, capture_output=True, cwd=work, timeout=300)
+        except subprocess.TimeoutExpired:
+            return "", "300 seconds"
+    # A body may also stop at a fault.
+    said = "0 tried, a fault" if ran.returncode else ran.stdout.decode(errors="replace").strip()
+    return said, f"status {ran.returncode} {ran.stderr.decode(errors='replace')[-1000:]}"
+
+
+cases = sorted(os.listdir(f"{work}/cases"))
+with ThreadPoolExecutor(len(os.sched_getaffinity(0))) as pool:
+    ran = dict(zip(cases, pool.map(run, cases)))
+named = {case: (case.rstrip("0123456789"), int(re.search(r"\d+$", case)[0])) for case in cases}
+said, ends = ({named[case]: it[at] for case, it in ran.items()} for at in (0, 1))
 numbers = counts.counts()
 rows = {"Plain": numbers["rows"], "Blocks": numbers["rows"] + numbers["event rows"]}
 for body, many in rows.items():
-    if said.get((body, 0)) != f"status 2\n{many} tried, 0 wrong":
-        sys.exit(f"wrong bodies: {body} as it is: {said.get((body, 0), 'no result')}\n{ends[-3000:]}")
+    if said[body, 0] != f"status 2\n{many} tried, 0 wrong":
+        sys.exit(f"wrong bodies: {body} as it is: {said[body, 0]}\n{ends[body, 0]}")
 forests = [printed(forest, text)[0].decode() for _, _, text, forest in inline_rows() if is_utf8(text)]
-if said.get(("Inlines", 0), "").split("\x04")[:len(forests)] != forests:
-    sys.exit(f"wrong bodies: the inline definition as it is: {said.get(('Inlines', 0), 'no result')[:300]}\n{ends[-3000:]}")
-# A body may also stop at a fault.
-said |= {(body, int(number)): "0 tried, a fault"
-         for body, number in re.findall(r"^case=(Blocks|Plain|Inlines)(\d+) run=fault", ends, re.M)}
+if said["Inlines", 0].split("\x04")[:len(forests)] != forests:
+    sys.exit(f"wrong bodies: the inline definition as it is: {said['Inlines', 0][:300]}\n{ends['Inlines', 0]}")
 # A row that ends in want of memory, which none does, is wrong too.
 WRONG = r"^\d+ tried, ([1-9]|0 wrong, memory ran out)"
 failed = 0
