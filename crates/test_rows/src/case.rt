@@ -33,21 +33,49 @@ impl From<AllocError> for CaseError {
     }
 }
 
+/// The first line of a row in its parts, and the lines after it.
+#[derive(Clone, Copy)]
+pub(crate) struct Head<'a> {
+    pub(crate) section: &'a str,
+    pub(crate) set: &'a str,
+    /// What is written after the set; nothing if it is left out.
+    pub(crate) about: &'a str,
+    pub(crate) lines: &'a str,
+}
+
+impl<'a> Head<'a> {
+    /// Reads it of a row.
+    pub(crate) fn read(row: &'a str) -> Option<Head<'a>> {
+        let (head, lines) = row.split_once('\n')?;
+        let (section, sets) = head.split_once(" | ")?;
+        let (set, about) = sets.split_once(" | ").unwrap_or((sets, ""));
+        Some(Head {
+            section,
+            set,
+            about,
+            lines,
+        })
+    }
+}
+
+/// The constructs of a set that a row is about.
+fn needed_of(about: &str, constructs: &Constructs) -> Option<Constructs> {
+    match about {
+        "" => Some(*constructs),
+        "nothing" => Some(Constructs::NONE),
+        names => named(names),
+    }
+}
+
 impl<'a> Case<'a> {
     /// Reads one row, without the empty line after it.
     pub fn read(alloc: Global, row: &'a str) -> Result<Case<'a>, CaseError> {
-        let (head, rest) = row.split_once('\n').ok_or(CaseError::Form)?;
-        let (section, sets) = head.split_once(" | ").ok_or(CaseError::Form)?;
-        let (set, about) = sets.split_once(" | ").unwrap_or((sets, ""));
-        let constructs = constructs_of(set).ok_or(CaseError::Form)?;
-        let needed = match about {
-            "" => constructs,
-            "nothing" => Constructs::NONE,
-            names => named(names).ok_or(CaseError::Form)?,
-        };
-        let (text, outline) = rest.split_once('\n').unwrap_or((rest, ""));
+        let head = Head::read(row).ok_or(CaseError::Form)?;
+        let constructs = constructs_of(head.set).ok_or(CaseError::Form)?;
+        let needed = needed_of(head.about, &constructs).ok_or(CaseError::Form)?;
+        let (text, outline) = head.lines.split_once('\n').unwrap_or((head.lines, ""));
         Ok(Case {
-            section,
+            section: head.section,
             constructs,
             needed,
             text: unquoted(alloc, text)?,

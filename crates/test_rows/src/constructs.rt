@@ -68,20 +68,20 @@ pub fn named(names: &str) -> Option<Constructs> {
 /// The constructs that are on in both.
 pub fn both(a: &Constructs, b: &Constructs) -> Constructs {
     Constructs {
-        alerts: a.alerts && b.alerts,
-        block_quote: a.block_quote && b.block_quote,
-        code_fenced: a.code_fenced && b.code_fenced,
-        code_indented: a.code_indented && b.code_indented,
-        definition: a.definition && b.definition,
-        frontmatter: a.frontmatter && b.frontmatter,
-        gfm_footnote_definition: a.gfm_footnote_definition && b.gfm_footnote_definition,
-        gfm_table: a.gfm_table && b.gfm_table,
-        heading_atx: a.heading_atx && b.heading_atx,
-        heading_setext: a.heading_setext && b.heading_setext,
-        html_flow: a.html_flow && b.html_flow,
-        list_item: a.list_item && b.list_item,
-        math_flow: a.math_flow && b.math_flow,
-        thematic_break: a.thematic_break && b.thematic_break,
+        alerts: a.alerts & b.alerts,
+        block_quote: a.block_quote & b.block_quote,
+        code_fenced: a.code_fenced & b.code_fenced,
+        code_indented: a.code_indented & b.code_indented,
+        definition: a.definition & b.definition,
+        frontmatter: a.frontmatter & b.frontmatter,
+        gfm_footnote_definition: a.gfm_footnote_definition & b.gfm_footnote_definition,
+        gfm_table: a.gfm_table & b.gfm_table,
+        heading_atx: a.heading_atx & b.heading_atx,
+        heading_setext: a.heading_setext & b.heading_setext,
+        html_flow: a.html_flow & b.html_flow,
+        list_item: a.list_item & b.list_item,
+        math_flow: a.math_flow & b.math_flow,
+        thematic_break: a.thematic_break & b.thematic_break,
         ..Constructs::NONE
     }
 }

@@ -1,6 +1,6 @@
 // A row of events, read.
 
-use crate::case::{CaseError, constructs_of, unquoted};
+use crate::case::{CaseError, Head, constructs_of, unquoted};
 use md_engine::configuration::Constructs;
 use std::alloc::Global;
 
@@ -21,14 +21,12 @@ pub struct EventCase<'a> {
 impl<'a> EventCase<'a> {
     /// Reads one row, without the empty line after it.
     pub fn read(alloc: Global, row: &'a str) -> Result<EventCase<'a>, CaseError> {
-        let (head, rest) = row.split_once('\n').ok_or(CaseError::Form)?;
-        let (section, sets) = head.split_once(" | ").ok_or(CaseError::Form)?;
-        let (set, layer) = sets.split_once(" | ").unwrap_or((sets, "plain"));
-        let (text, parts) = rest.split_once('\n').ok_or(CaseError::Form)?;
+        let head = Head::read(row).ok_or(CaseError::Form)?;
+        let (text, parts) = head.lines.split_once('\n').ok_or(CaseError::Form)?;
         Ok(EventCase {
-            section,
-            constructs: constructs_of(set).ok_or(CaseError::Form)?,
-            marks_references: layer == "references",
+            section: head.section,
+            constructs: constructs_of(head.set).ok_or(CaseError::Form)?,
+            marks_references: head.about == "references",
             text: unquoted(alloc, text)?,
             parts,
         })

@@ -81,7 +81,21 @@ fn with_footnote(alloc: Global, output: &str) -> Result<String, AllocError> {
     format!(in alloc; "{front}\nfootnotes {all}\n= x\n{labels}")
 }
 
-/// Tries whether a text in a quote gives this outline below this head. The events of the quote are tried too.
+/// Tries whether a text in a container gives this. Its events are tried too.
+fn try_nested<B: Body>(
+    alloc: Global,
+    law: &str,
+    nested: &str,
+    wanted: &str,
+    constructs: &Constructs,
+    report: &mut Report,
+) -> Result<(), CaseError> {
+    let got = printed::<B>(alloc, nested, constructs)?;
+    report.add(law, nested, wanted, got.as_str())?;
+    try_events::<B>(alloc, nested, constructs, report)
+}
+
+/// Tries whether a text in a quote gives this outline below this head.
 fn try_quote<B: Body>(
     alloc: Global,
     text: &str,
@@ -91,15 +105,101 @@ fn try_quote<B: Body>(
     report: &mut Report,
 ) -> Result<(), CaseError> {
     let quote = quoted(alloc, text)?;
-    let got = printed::<B>(alloc, quote.as_str(), constructs)?;
     let wanted = below(alloc, output, head, "  ")?;
-    report.add(
+    let wanted = wanted.as_str();
+    try_nested::<B>(
+        alloc,
         "the quote law",
         quote.as_str(),
-        wanted.as_str(),
-        got.as_str(),
-    )?;
-    try_events::<B>(alloc, quote.as_str(), constructs, report)
+        wanted,
+        constructs,
+        report,
+    )
+}
+
+/// Tries the alert law: below this head is the outline of the lines after the marker, where the laws speak of them.
+fn try_alert<B: Body>(
+    alloc: Global,
+    text: &str,
+    head: &str,
+    constructs: &Constructs,
+    report: &mut Report,
+) -> Result<(), CaseError> {
+    let rest = after_first_line(text);
+    let output = printed::<B>(alloc, rest, constructs)?;
+    if rest.starts_with('\u{feff}') || output.as_str().starts_with("frontmatter ") {
+        return Ok(());
+    }
+    try_quote::<B>(alloc, text, head, output.as_str(), constructs, report)
+}
+
+/// Tries the list law on a text with this outline.
+fn try_item<B: Body>(
+    alloc: Global,
+    text: &str,
+    output: &str,
+    constructs: &Constructs,
+    report: &mut Report,
+) -> Result<(), CaseError> {
+    let item = itemised(alloc, text)?;
+    let wanted = below(alloc, output, "list +\n  item\n", "    ")?;
+    let wanted = wanted.as_str();
+    try_nested::<B>(
+        alloc,
+        "the list law",
+        item.as_str(),
+        wanted,
+        constructs,
+        report,
+    )
+}
+
+/// Tries the footnote law on a text with this outline.
+fn try_footnote<B: Body>(
+    alloc: Global,
+    text: &str,
+    output: &str,
+    constructs: &Constructs,
+    report: &mut Report,
+) -> Result<(), CaseError> {
+    let footnote = footnoted(alloc, text)?;
+    let deeper = below(alloc, output, "footnote\n  label | x\n", "  ")?;
+    let wanted = with_footnote(alloc, deeper.as_str())?;
+    let wanted = wanted.as_str();
+    try_nested::<B>(
+        alloc,
+        "the footnote law",
+        footnote.as_str(),
+        wanted,
+        constructs,
+        report,
+    )
+}
+
+/// Tries the laws on a plain text with this outline, of each container that is on.
+fn try_containers<B: Body>(
+    alloc: Global,
+    text: &str,
+    output: &str,
+    constructs: &Constructs,
+    report: &mut Report,
+) -> Result<(), CaseError> {
+    if constructs.block_quote {
+        match alert_of(text, constructs) {
+            None => try_quote::<B>(alloc, text, "quote\n", output, constructs, report)?,
+            Some(head) => try_alert::<B>(alloc, text, head, constructs, report)?,
+        }
+    }
+    if !begins_with_text(text) {
+        return Ok(());
+    }
+    if constructs.list_item {
+        try_item::<B>(alloc, text, output, constructs, report)?;
+    }
+    if constructs.gfm_footnote_definition {
+        try_footnote::<B>(alloc, text, output, constructs, report)?;
+    }
+    Ok(())
 }
 
 /// Tries the laws on a text with constructs that the body has, as far as they speak of it: not of frontmatter either.
@@ -117,37 +217,5 @@ pub fn try_laws<B: Body>(
     if output.as_str().starts_with("frontmatter ") {
         return Ok(());
     }
-    if constructs.block_quote {
-        match alert_of(text, constructs) {
-            None => try_quote::<B>(alloc, text, "quote\n", output.as_str(), constructs, report)?,
-            Some(head) => {
-                let rest = after_first_line(text);
-                let output = printed::<B>(alloc, rest, constructs)?;
-                if !rest.starts_with('\u{feff}') && !output.as_str().starts_with("frontmatter ") {
-                    try_quote::<B>(alloc, text, head, output.as_str(), constructs, report)?;
-                }
-            }
-        }
-    }
-    if constructs.list_item && begins_with_text(text) {
-        let item = itemised(alloc, text)?;
-        let got = printed::<B>(alloc, item.as_str(), constructs)?;
-        let wanted = below(alloc, output.as_str(), "list +\n  item\n", "    ")?;
-        report.add("the list law", item.as_str(), wanted.as_str(), got.as_str())?;
-        try_events::<B>(alloc, item.as_str(), constructs, report)?;
-    }
-    if constructs.gfm_footnote_definition && begins_with_text(text) {
-        let footnote = footnoted(alloc, text)?;
-        let got = printed::<B>(alloc, footnote.as_str(), constructs)?;
-        let deeper = below(alloc, output.as_str(), "footnote\n  label | x\n", "  ")?;
-        let wanted = with_footnote(alloc, deeper.as_str())?;
-        report.add(
-            "the footnote law",
-            footnote.as_str(),
-            wanted.as_str(),
-            got.as_str(),
-        )?;
-        try_events::<B>(alloc, footnote.as_str(), constructs, report)?;
-    }
-    Ok(())
+    try_containers::<B>(alloc, text, output.as_str(), constructs, report)
 }

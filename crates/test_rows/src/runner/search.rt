@@ -109,18 +109,12 @@ pub fn try_begins<B: Body>(
 
 /// Tries one begin of a text so.
 fn try_begin<B: Body>(alloc: Global, text: &str, report: &mut Report) -> Result<(), CaseError> {
-    for set in [
-        Constructs::COMMONMARK,
-        Constructs::GFM,
-        Constructs::ALL,
-        Constructs::ALERTS,
-    ] {
-        try_events::<B>(alloc, text, &set, report)?;
-    }
-    for set in [Constructs::ALL, Constructs::ALERTS] {
-        try_laws::<B>(alloc, text, &built_of::<B>(&set), report)?;
-    }
-    Ok(())
+    try_events::<B>(alloc, text, &Constructs::COMMONMARK, report)?;
+    try_events::<B>(alloc, text, &Constructs::GFM, report)?;
+    try_events::<B>(alloc, text, &Constructs::ALL, report)?;
+    try_events::<B>(alloc, text, &Constructs::ALERTS, report)?;
+    try_laws::<B>(alloc, text, &built_of::<B>(&Constructs::ALL), report)?;
+    try_laws::<B>(alloc, text, &built_of::<B>(&Constructs::ALERTS), report)
 }
 
 /// Tries the laws on so many random texts, each with random constructs of the body.

@@ -47,19 +47,45 @@ fn lines_of(alloc: Global, row: &str) -> Result<Vec<String>, CaseError> {
     Ok(lines)
 }
 
+/// Adds to a report what a text is in a container.
+fn add_wrap(
+    title: &str,
+    text: &str,
+    wanted: &str,
+    got: String,
+    report: &mut Report,
+) -> Result<(), CaseError> {
+    report.add(title, text, wanted, got.as_str())?;
+    Ok(())
+}
+
 /// Tries one row of a table of wraps.
 fn try_wrap(alloc: Global, lines: &[String], report: &mut Report) -> Result<(), CaseError> {
     let [text, quote, item, footnote] = lines else {
         return Err(CaseError::Form);
     };
     let text = text.as_str();
-    let got = quoted(alloc, text)?;
-    report.add("a quote", text, quote.as_str(), got.as_str())?;
-    let got = itemised(alloc, text)?;
-    report.add("an item", text, item.as_str(), got.as_str())?;
-    let got = footnoted(alloc, text)?;
-    report.add("a footnote", text, footnote.as_str(), got.as_str())?;
-    Ok(())
+    add_wrap(
+        "a quote",
+        text,
+        quote.as_str(),
+        quoted(alloc, text)?,
+        report,
+    )?;
+    add_wrap(
+        "an item",
+        text,
+        item.as_str(),
+        itemised(alloc, text)?,
+        report,
+    )?;
+    add_wrap(
+        "a footnote",
+        text,
+        footnote.as_str(),
+        footnoted(alloc, text)?,
+        report,
+    )
 }
 
 /// Tries this on a table of wraps.
