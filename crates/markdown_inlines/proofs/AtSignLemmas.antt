@@ -1,6 +1,6 @@
 -- A text without an `@` has no e-mail address.
 use Rattle.std.proofs.Common.{◌≡◌, ℕ, zero, suc, ◌+◌, ◌≤◌, Bool, true, false, cond, ◌&&◌, List, [], ◌∷◌, ◌++◌}
-use Rattle.std.proofs.Common.{length, take, drop, Option, Some, None, refl, ap, sym, ◌∙◌, arith}
+use Rattle.std.proofs.Common.{length, take, drop, Option, Some, None, refl, ap, sym, ◌∙◌, subst, arith}
 use Rattle.std.specs.Prelude.{◌==◌, ◌||◌, nat_le, codes, not, option_map}
 use Rattle.std.specs.List.{prefix_len, take_while}
 use Rattle.std.proofs.lemmas.Bool.{or_parts}
@@ -11,6 +11,9 @@ use Rattle.md_meaning.specs.Ascii.{dot}
 use Rattle.md_meaning.specs.Html.{starts_in_any_case}
 use Rattle.md_meaning.specs.Lines.{begins_with}
 use Rattle.md_inline_events.specs.Forest.{Forest, nothing, over, part, piece, size}
+use Rattle.md_inline_events.specs.Tokens.{tokens}
+use Rattle.md_inline_events.specs.declared.token.Token.{Token}
+use Rattle.md_inline_events.specs.declared.token.Token.TheVariants as t
 use Rattle.md_inlines.specs.Atoms.{beside, byte, is_data, joined, literal_name, merged}
 use Rattle.md_inlines.specs.Autolink.{at_sign}
 use Rattle.md_inlines.specs.Emails.{emails_at_most, emails_in, holds_text, with_emails}
@@ -19,7 +22,9 @@ use Rattle.md_inlines.specs.Literal.{without_last, xmpp_len}
 use Rattle.md_inlines.specs.declared.Literal.{Literal}
 use Rattle.md_inlines.specs.declared.LiteralKind.TheVariants as literal
 use Rattle.proof_inlines.proofs.ContentForests.{size-part, size-piece}
-use Rattle.markdown_inlines.specs.Addressed.{has_at_sign}
+use Rattle.markdown_inlines.specs.Added.{IsAdded}
+use Rattle.markdown_inlines.specs.Addressed.{has_at_sign, joined_after}
+use Rattle.markdown_inlines.specs.declared.emails.Joined.{Joined}
 use Rattle.markdown_inlines.proofs.JoinedLemmas.{data-name, joined-joined}
 
 none-drop : (k : ℕ) (text : List ℕ) → has_at_sign text ≡ false → has_at_sign (drop k text) ≡ false
@@ -154,3 +159,39 @@ no-addresses (part name inside following) before text h room =
     go true first second =
         ap (λ (f : Forest). part name f (merged rest)) first ∙ ap (part name (merged inside)) second
     go false first second = ap (part name (merged inside)) second
+
+-- such a text is added as one token
+plain-joined : (more : ℕ) (before text : List ℕ) (len : ℕ) (rest : List Token) → has_at_sign text ≡ false →
+    length text ≤ more →
+    joined_after len (tokens (emails_at_most more before text) ++ rest) ≡ joined_after (len + length text) rest
+plain-joined zero before [] len rest h room =
+    let same : len ≡ len + 0 = omega arith in ap (λ (k : ℕ). joined_after k rest) same
+plain-joined zero before (b ∷ text) len rest h room = absurd (omega (arith, room))
+plain-joined (suc more) before [] len rest h room =
+    let same : len ≡ len + 0 = omega arith in ap (λ (k : ℕ). joined_after k rest) same
+plain-joined (suc more) before (b ∷ text) len rest h room =
+    let sum : len + 1 + length text ≡ len + suc (length text) = omega arith in
+    ap
+    (λ (o : Option Literal).
+    joined_after len
+    (tokens
+    (elim o as (λ (_ : Option Literal). Forest) [
+      | Some found ↦ over (literal_name found.kind) found.len
+          (emails_at_most more (before ++ take found.len (b ∷ text)) (drop found.len (b ∷ text)))
+      | None ↦ byte n.Data (emails_at_most more (before ++ b ∷ []) text)
+    ])
+    ++ rest)) (no-address before (b ∷ text) h)
+    ∙ plain-joined more (before ++ b ∷ []) text (len + 1) rest
+    (or_parts (b == at_sign) (has_at_sign text) h).1 (omega (arith, room))
+    ∙ ap (λ (k : ℕ). joined_after k rest) sum
+
+pub plain-added : (before text after : List ℕ) (old new : Joined) → after ≡ text → has_at_sign after ≡ false →
+    IsAdded (t.Over n.Data (length after) ∷ []) old new → IsAdded (tokens (emails_in before text)) old new
+plain-added before text after old new is h added =
+    subst (λ (l : List ℕ). IsAdded (tokens (emails_in before l)) old new) is
+    (record {
+      same =
+          λ rest. added.same rest
+          ∙ ap (λ (l : List Token). old.tokens.items ++ l)
+          (sym (plain-joined (length after) before after old.text rest h (omega arith)));
+    })

@@ -9,7 +9,7 @@ use Rattle.std.proofs.lemmas.List.{drop-drop, get_or-drop, get_or-take, length-d
 use Rattle.std.proofs.lemmas.List.Sums.{prefix_len-le-length, prefix_len_passes, prefix_len_stops}
 use Rattle.md_meaning.specs.Rest.{is_white}
 use Rattle.md_inlines.specs.Breaks.{ends_here, trailing_len}
-use Rattle.markdown_inlines.specs.Plain.{begins_text, is_inner, is_plain, line_end}
+use Rattle.markdown_inlines.specs.Plain.{begins_text, is_inner, is_plain, is_quiet, line_end}
 use Rattle.markdown_inlines.proofs.PlainLemmas.{dark-trailing}
 
 -- a byte that is neither whitespace nor the end of a line
@@ -73,7 +73,7 @@ inner-text literals m zero (b ∷ text) within few run short d =
     let inner : (is_inner literals b ≡ true) × (0 ≤ prefix_len (is_inner literals) text) =
     inner-first literals b 0 text (omega (arith, few)) in
     let zero : trailing_len (b ∷ text) ≡ 0 = none-trailing (b ∷ text) (ahead literals m (b ∷ text) run short d) in
-    ap (λ (t : Bool). t && (trailing_len (b ∷ text) == 0)) (inner-plain literals b inner.0)
+    ap (λ (t : Bool). (t || is_quiet (b ∷ text)) && (trailing_len (b ∷ text) == 0)) (inner-plain literals b inner.0)
     ∙ ap (λ (n : ℕ). n == 0) zero
 inner-text literals zero (suc k) (b ∷ text) within few run short d = absurd (omega (arith, within))
 inner-text literals (suc m) (suc k) (b ∷ text) within few run short d =

@@ -28,6 +28,7 @@ pub mod StringTokens
 pub mod LayerLemmas
 pub mod LabelLemmas
 pub mod OwnLemmas
+pub mod LaneLemmas
 pub mod PlainLemmas
 pub mod InnerLemmas
 pub mod EndLemmas

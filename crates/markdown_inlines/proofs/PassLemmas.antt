@@ -2,16 +2,13 @@
 use Rattle.std.proofs.Common.{◌≡◌, ℕ, zero, suc, ◌+◌, ◌<◌, Bool, true, List, [], ◌∷◌, length, take, drop}
 use Rattle.std.proofs.Common.{refl, ap, sym, ◌∙◌, subst, arith}
 use Rattle.std.specs.Prelude.{◌==◌, not}
-use Rattle.std.proofs.lemmas.Bool.{and_parts}
-use Rattle.std.proofs.lemmas.Bool.Decides.{nat_tests}
 use Rattle.std.proofs.lemmas.List.{drop-drop}
-use Rattle.md_inlines.specs.Breaks.{trailing_len}
 use Rattle.markdown_inlines.specs.declared.brackets.Reading.{Reading}
 use Rattle.markdown_inlines.specs.declared.brackets.Source.{Source}
-use Rattle.markdown_inlines.specs.Plain.{begins_text, is_plain}
+use Rattle.markdown_inlines.specs.Plain.{begins_text}
 use Rattle.markdown_inlines.specs.Reading.{front_at}
 use Rattle.markdown_inlines.specs.Reads.{Reads}
-use Rattle.markdown_inlines.proofs.PlainLemmas.{front-text}
+use Rattle.markdown_inlines.proofs.PlainLemmas.{text-front}
 use Rattle.markdown_inlines.proofs.StepLemmas.{text-goes}
 
 -- a reader at another place
@@ -42,17 +39,13 @@ texts-pass source old (suc len) h all =
         Reads source mid → Reads source (with_at old (old.at + suc len))
     go [] is passes reads = cc
     go (b ∷ following) is passes reads =
-        let parts : (is_plain literals b ≡ true) ×
-        ((trailing_len (b ∷ following) == 0) ≡ true) = and_parts (is_plain literals b)
-        (trailing_len (b ∷ following) == 0) passes in
-        let none : trailing_len (b ∷ following) ≡ 0 = grind (arith, nat_tests) in
         let goes = text-goes source mid (with_at old (old.at + suc len)) reads (length old.brackets.items == 0)
         (take (old.at + len) source.text.now) (drop (old.at + len) source.text.now) b following refl refl refl is
         (sym
         (ap
         (front_at source.options.now (not (length old.brackets.items == 0)) (take (old.at + len) source.text.now) b)
         is
-        ∙ front-text source.options.now (not (length old.brackets.items == 0)) (take (old.at + len) source.text.now)
-        b following parts.0 none))
+        ∙ text-front source.options.now (not (length old.brackets.items == 0)) (take (old.at + len) source.text.now)
+        b following passes))
         (record { spans = refl; runs = refl; brackets = refl; links = refl; at = omega arith }) in
         goes.reads

@@ -1,14 +1,12 @@
 -- Bytes that begin nothing, and whitespace that ends no line.
-use Rattle.std.proofs.Common.{◌≡◌, ℕ, zero, suc, ◌+◌, ◌-◌, ◌<◌, ◌≤◌, Bool, true, false, cond, List, [], ◌∷◌, length}
+use Rattle.std.proofs.Common.{◌≡◌, ℕ, ◌+◌, Bool, true, false, cond, List, [], ◌∷◌}
 use Rattle.std.proofs.Common.{drop, Option, Some, None, refl, ap, sym, ◌∙◌, arith}
-use Rattle.std.specs.Prelude.{◌&&◌, ◌==◌, not, nat_eq, nat_lt, codes, option_map, if◌then◌else◌}
+use Rattle.std.specs.Prelude.{◌&&◌, ◌||◌, ◌==◌, not, nat_eq, nat_lt, codes, option_map, if◌then◌else◌}
 use Rattle.std.specs.List.{list_any, prefix_len}
 use Rattle.std.specs.Char.{to_ascii_lowercase}
 use Rattle.std.proofs.lemmas.Bool.{and_parts, or_parts}
 use Rattle.std.proofs.lemmas.Bool.Decides.{nat_tests}
-use Rattle.std.proofs.lemmas.List.{drop-drop}
 use Rattle.md_meaning.specs.Ascii.{right_bracket}
-use Rattle.md_meaning.specs.Bytes.{begins}
 use Rattle.md_meaning.specs.Html.{starts_in_any_case}
 use Rattle.md_meaning.specs.Rest.{is_white}
 use Rattle.md_inline_events.specs.Forest.{Forest}
@@ -20,7 +18,9 @@ use Rattle.md_inlines.specs.Breaks.{ends_here, trailing_len}
 use Rattle.md_inlines.specs.Brackets.{Front, closes, is_atom, is_run, is_text, opens}
 use Rattle.md_inlines.specs.Flanking.{run_at}
 use Rattle.md_inlines.specs.Literal.{address as literal_of, literal_at, may_follow}
-use Rattle.markdown_inlines.specs.Plain.{begins_text, is_plain}
+use Rattle.md_inlines.specs.Targets.{string_atom}
+use Rattle.markdown_inlines.specs.Found.{may_begin_string_atom}
+use Rattle.markdown_inlines.specs.Plain.{begins_text, is_bare, is_plain, is_quiet}
 use Rattle.markdown_inlines.specs.Reading.{front_at, is_mark, opening}
 
 -- no whitespace is at the front
@@ -33,82 +33,6 @@ dark-trailing b text e =
     go : (n : ℕ) (t : Bool) → cond t n n ≡ n
     go n true = refl
     go n false = refl
-
-pub dark-first : (b : ℕ) (text : List ℕ) → begins (λ c. c == b) text ≡ true → is_white b ≡ false →
-    trailing_len text ≡ 0
-dark-first b [] h e = cc
-dark-first b (c ∷ text) h e =
-    let same : c ≡ b = grind (arith, nat_tests) in
-    dark-trailing c text (ap is_white same ∙ e)
-
--- within whitespace that ends no line
-within : (text : List ℕ) (k : ℕ) → ends_here (drop (prefix_len is_white text) text) ≡ false →
-    k ≤ prefix_len is_white text → trailing_len (drop k text) ≡ 0
-unfolding trailing_len
-within text zero h some = ap (λ t. cond t (prefix_len is_white text) 0) h
-within [] (suc k) h some = absurd (omega (arith, some))
-within (b ∷ text) (suc k) h some = go (is_white b) refl (within text k)
-  where
-    go : (t : Bool) → is_white b ≡ t →
-        (ends_here (drop (prefix_len is_white text) text) ≡ false → k ≤ prefix_len is_white text →
-        trailing_len (drop k text) ≡ 0) →
-        trailing_len (drop k text) ≡ 0
-    go true e rest =
-        let one : prefix_len is_white (b ∷ text) ≡ 1 + prefix_len is_white text = rw e refl in
-        let more : prefix_len is_white (b ∷ text) ≡ suc (prefix_len is_white text) = omega (arith, one) in
-        rest (ap (λ n. ends_here (drop n (b ∷ text))) (sym more) ∙ h) (omega (arith, more, some))
-    go false e rest =
-        let none : prefix_len is_white (b ∷ text) ≡ 0 = rw e refl in
-        absurd (omega (arith, none, some))
-
-pub white-within : (text : List ℕ) (k : ℕ) → trailing_len text ≡ 0 → k < prefix_len is_white text →
-    trailing_len (drop k text) ≡ 0
-unfolding trailing_len
-white-within text k h some = go (ends_here (drop (prefix_len is_white text) text)) refl h
-  where
-    go : (t : Bool) → ends_here (drop (prefix_len is_white text) text) ≡ t →
-        cond t (prefix_len is_white text) 0 ≡ 0 → trailing_len (drop k text) ≡ 0
-    go true e h = absurd (omega (arith, h, some))
-    go false e h = within text k e (omega (arith, some))
-
--- one more byte of text
-pub text-more : (literals : Bool) (text rest following : List ℕ) (b : ℕ) → rest ≡ b ∷ following →
-    length rest ≤ length text → rest ≡ drop (length text - length rest) text → is_plain literals b ≡ true →
-    trailing_len rest ≡ 0 →
-    ((k : ℕ) → k < length text - length rest → begins_text literals (drop k text) ≡ true) →
-    (k : ℕ) → k < length text - length following → begins_text literals (drop k text) ≡ true
-text-more literals text rest following b cut front is plain inner passed k few =
-    go (nat_lt k (length text - length rest)) refl
-  where
-    long : length rest ≡ suc (length following)
-    long = ap length cut
-
-    none : (trailing_len (b ∷ following) == 0) ≡ true
-    none =
-        let zero : trailing_len (b ∷ following) ≡ 0 = ap trailing_len (sym cut) ∙ inner in
-        ap (λ (n : ℕ). n == 0) zero
-
-    here : begins_text literals (b ∷ following) ≡ true
-    here = ap (λ t. t && (trailing_len (b ∷ following) == 0)) plain ∙ none
-
-    go : (t : Bool) → nat_lt k (length text - length rest) ≡ t → begins_text literals (drop k text) ≡ true
-    go true f = passed k (grind (arith, nat_tests))
-    go false f =
-        let same : k ≡ length text - length rest = grind (arith, nat_tests) in
-        ap (λ n. begins_text literals (drop n text)) same ∙ ap (begins_text literals) (sym is ∙ cut) ∙ here
-
--- what is left, as a tail of the text
-pub tail-more : (text rest following : List ℕ) (b : ℕ) → rest ≡ b ∷ following → length rest ≤ length text →
-    rest ≡ drop (length text - length rest) text → following ≡ drop (length text - length following) text
-tail-more text rest following b cut front is =
-    let long : length rest ≡ suc (length following) = ap length cut in
-    let next : (length text - length rest) + 1 ≡ length text - length following = omega (arith, long, front) in
-    ap (drop 1) (sym cut ∙ is) ∙ drop-drop 1 (length text - length rest) text ∙ ap (λ n. drop n text) next
-
-pub drop-more : (rest following : List ℕ) (b k : ℕ) → rest ≡ b ∷ following → drop (k + 1) rest ≡ drop k following
-drop-more rest following b k cut =
-    let one : k + 1 ≡ suc k = omega arith in
-    ap (drop (k + 1)) cut ∙ ap (λ n. drop n (b ∷ following)) one
 
 -- The front of a text that begins with a plain byte.
 
@@ -164,18 +88,77 @@ others b h =
       tilde = swap 126 b p10.0;
     }
 
+-- which bytes it is not with which an atom begins, but for an address
+record Unbound (b : ℕ) : Type 0 where
+  dollar : (b == 36) ≡ false
+  ampersand : (b == 38) ≡ false
+  less : (b == 60) ≡ false
+  slash : (b == 92) ≡ false
+  tick : (b == 96) ≡ false
+
+-- a byte that passes a test is no other that fails
+unlike : (p : ℕ → Bool) (b k : ℕ) → p b ≡ true → p k ≡ false → (b == k) ≡ false
+unlike p b k passes fails = go (b == k) refl
+  where
+    go : (t : Bool) → (b == k) ≡ t → t ≡ false
+    go true e =
+        let is : b ≡ k = grind (arith, nat_tests) in
+        let both : true ≡ false = sym passes ∙ ap p is ∙ fails in
+        cc
+    go false e = refl
+
 not-true : (x : Bool) → not x ≡ true → x ≡ false
 not-true true h = cc
 not-true false h = refl
+
+-- An address begins with `http` or `www`.
+record NoAddress (text : List ℕ) : Type 0 where
+  www : starts_in_any_case text (codes "www.") ≡ false
+  http : starts_in_any_case text (codes "http://") ≡ false
+  https : starts_in_any_case text (codes "https://") ≡ false
+
+none-there : (on : Bool) (before text : List ℕ) → NoAddress text →
+    when on (option_map address (literal_at before text)) ≡ None
+unfolding literal_at
+none-there false before text p = refl
+none-there true before text p = go (may_follow before)
+  where
+    go : (m : Bool) →
+        option_map address
+        (cond (not m) None
+        (cond (starts_in_any_case text (codes "www.")) (literal_of n.Www 4 text)
+        (cond (starts_in_any_case text (codes "http://")) (literal_of n.Protocol 7 text)
+        (cond (starts_in_any_case text (codes "https://")) (literal_of n.Protocol 8 text) None)))) ≡
+        None
+    go false = refl
+    go true =
+        ap
+        (λ x.
+        option_map address
+        (cond x (literal_of n.Www 4 text)
+        (cond (starts_in_any_case text (codes "http://")) (literal_of n.Protocol 7 text)
+        (cond (starts_in_any_case text (codes "https://")) (literal_of n.Protocol 8 text) None)))) p.www
+        ∙ ap
+        (λ x.
+        option_map address
+        (cond x (literal_of n.Protocol 7 text)
+        (cond (starts_in_any_case text (codes "https://")) (literal_of n.Protocol 8 text) None))) p.http
+        ∙ ap (λ x. option_map address (cond x (literal_of n.Protocol 8 text) None)) p.https
+
+-- the first byte is another
+other-first : (b : ℕ) (text : List ℕ) → nat_eq 119 (to_ascii_lowercase b) ≡ false →
+    nat_eq 104 (to_ascii_lowercase b) ≡ false → NoAddress (b ∷ text)
+other-first b text no-w no-h = record { www = rw no-w refl; http = rw no-h refl; https = rw no-h refl }
 
 -- no address begins with it
 no-address : (literals outside : Bool) (before : List ℕ) (b : ℕ) (text : List ℕ) →
     not (literals && list_any (λ c. c == b) (codes "HWhw")) ≡ true →
     when (literals && outside) (option_map address (literal_at before (b ∷ text))) ≡ None
-unfolding literal_at
 no-address false outside before b text h = refl
-no-address true false before b text h = refl
-no-address true true before b text h = go (may_follow before)
+no-address true outside before b text h =
+    none-there outside before (b ∷ text)
+    (other-first b text (low-other 119 b 87 (swap 119 b p3.0) (swap 87 b p1.0) refl)
+    (low-other 104 b 72 (swap 104 b p2.0) (swap 72 b p0.0) refl))
   where
     any : list_any (λ c. c == b) (codes "HWhw") ≡ false
     any = not-true (list_any (λ c. c == b) (codes "HWhw")) h
@@ -192,42 +175,119 @@ no-address true true before b text h = go (may_follow before)
     p3 : ((119 == b) ≡ false) × (false ≡ false)
     p3 = or_parts (119 == b) false p2.1
 
+-- Two bytes of which the first is that of `http` or `www`, and the second is not.
+
+second-other : (x y rest : Bool) → y ≡ false → (x && (y && rest)) ≡ false
+second-other true y rest h = ap (λ (t : Bool). t && rest) h
+second-other false y rest h = refl
+
+abbrev one_of : List ℕ → ℕ → Bool
+one_of bytes b = list_any (λ c. c == b) bytes
+
+-- `h`, and no `t`
+quiet-h : (b c : ℕ) (text : List ℕ) → one_of (codes "Hh") b ≡ true → one_of (codes "Tt") c ≡ false →
+    NoAddress (b ∷ c ∷ text)
+quiet-h b c text h other = record {
+  www = rw no-w refl;
+  http = second-other (nat_eq 104 (to_ascii_lowercase b)) (nat_eq 116 (to_ascii_lowercase c)) _ no-t;
+  https = second-other (nat_eq 104 (to_ascii_lowercase b)) (nat_eq 116 (to_ascii_lowercase c)) _ no-t;
+}
+  where
+    p0 : ((84 == c) ≡ false) × (one_of (codes "t") c ≡ false)
+    p0 = or_parts (84 == c) (one_of (codes "t") c) other
+
+    p1 : ((116 == c) ≡ false) × (false ≡ false)
+    p1 = or_parts (116 == c) false p0.1
+
+    no-t : nat_eq 116 (to_ascii_lowercase c) ≡ false
+    no-t = low-other 116 c 84 (swap 116 c p1.0) (swap 84 c p0.0) refl
+
     no-w : nat_eq 119 (to_ascii_lowercase b) ≡ false
-    no-w = low-other 119 b 87 (swap 119 b p3.0) (swap 87 b p1.0) refl
+    no-w =
+        low-other 119 b 87 (unlike (one_of (codes "Hh")) b 119 h refl) (unlike (one_of (codes "Hh")) b 87 h refl) refl
+
+-- `w`, and no second one
+quiet-w : (b c : ℕ) (text : List ℕ) → one_of (codes "Ww") b ≡ true → one_of (codes "Ww") c ≡ false →
+    NoAddress (b ∷ c ∷ text)
+quiet-w b c text h other = record {
+  www = second-other (nat_eq 119 (to_ascii_lowercase b)) (nat_eq 119 (to_ascii_lowercase c)) _ no-w;
+  http = rw no-h refl;
+  https = rw no-h refl;
+}
+  where
+    p0 : ((87 == c) ≡ false) × (one_of (codes "w") c ≡ false)
+    p0 = or_parts (87 == c) (one_of (codes "w") c) other
+
+    p1 : ((119 == c) ≡ false) × (false ≡ false)
+    p1 = or_parts (119 == c) false p0.1
+
+    no-w : nat_eq 119 (to_ascii_lowercase c) ≡ false
+    no-w = low-other 119 c 87 (swap 119 c p1.0) (swap 87 c p0.0) refl
 
     no-h : nat_eq 104 (to_ascii_lowercase b) ≡ false
-    no-h = low-other 104 b 72 (swap 104 b p2.0) (swap 72 b p0.0) refl
+    no-h =
+        low-other 104 b 72 (unlike (one_of (codes "Ww")) b 104 h refl) (unlike (one_of (codes "Ww")) b 72 h refl) refl
 
-    www : starts_in_any_case (b ∷ text) (codes "www.") ≡ false
-    www = rw no-w refl
+-- what is known of their first byte: no address is there, and but for one no atom
+record Quiet (b : ℕ) (text : List ℕ) : Type 0 where
+  none : NoAddress (b ∷ text)
+  others : list_any (λ c. c == b) (codes "!$&*<[\\]_`~") ≡ false
+  dark : is_white b ≡ false
 
-    http : starts_in_any_case (b ∷ text) (codes "http://") ≡ false
-    http = rw no-h refl
+others-unlike : (p : ℕ → Bool) (b : ℕ) → p b ≡ true → p 33 ≡ false → p 36 ≡ false → p 38 ≡ false → p 42 ≡ false →
+    p 60 ≡ false → p 91 ≡ false → p 92 ≡ false → p 93 ≡ false → p 95 ≡ false → p 96 ≡ false → p 126 ≡ false →
+    list_any (λ c. c == b) (codes "!$&*<[\\]_`~") ≡ false
+others-unlike p b h a1 a2 a3 a4 a5 a6 a7 a8 a9 a10 a11 =
+    let e1 : (33 == b) ≡ false = swap b 33 (unlike p b 33 h a1) in
+    let e2 : (36 == b) ≡ false = swap b 36 (unlike p b 36 h a2) in
+    let e3 : (38 == b) ≡ false = swap b 38 (unlike p b 38 h a3) in
+    let e4 : (42 == b) ≡ false = swap b 42 (unlike p b 42 h a4) in
+    let e5 : (60 == b) ≡ false = swap b 60 (unlike p b 60 h a5) in
+    let e6 : (91 == b) ≡ false = swap b 91 (unlike p b 91 h a6) in
+    let e7 : (92 == b) ≡ false = swap b 92 (unlike p b 92 h a7) in
+    let e8 : (93 == b) ≡ false = swap b 93 (unlike p b 93 h a8) in
+    let e9 : (95 == b) ≡ false = swap b 95 (unlike p b 95 h a9) in
+    let e10 : (96 == b) ≡ false = swap b 96 (unlike p b 96 h a10) in
+    let e11 : (126 == b) ≡ false = swap b 126 (unlike p b 126 h a11) in
+    rw (e1, e2, e3, e4, e5, e6, e7, e8, e9, e10, e11) refl
 
-    https : starts_in_any_case (b ∷ text) (codes "https://") ≡ false
-    https = rw no-h refl
+dark-unlike : (p : ℕ → Bool) (b : ℕ) → p b ≡ true → p 32 ≡ false → p 9 ≡ false → is_white b ≡ false
+dark-unlike p b h space tab =
+    let e1 : (b == 32) ≡ false = unlike p b 32 h space in
+    let e2 : (b == 9) ≡ false = unlike p b 9 h tab in
+    rw (e1, e2) refl
 
-    go : (m : Bool) →
-        option_map address
-        (cond (not m) None
-        (cond (starts_in_any_case (b ∷ text) (codes "www.")) (literal_of n.Www 4 (b ∷ text))
-        (cond (starts_in_any_case (b ∷ text) (codes "http://")) (literal_of n.Protocol 7 (b ∷ text))
-        (cond (starts_in_any_case (b ∷ text) (codes "https://")) (literal_of n.Protocol 8 (b ∷ text)) None)))) ≡
-        None
-    go false = refl
-    go true =
-        ap
-        (λ x.
-        option_map address
-        (cond x (literal_of n.Www 4 (b ∷ text))
-        (cond (starts_in_any_case (b ∷ text) (codes "http://")) (literal_of n.Protocol 7 (b ∷ text))
-        (cond (starts_in_any_case (b ∷ text) (codes "https://")) (literal_of n.Protocol 8 (b ∷ text)) None)))) www
-        ∙ ap
-        (λ x.
-        option_map address
-        (cond x (literal_of n.Protocol 7 (b ∷ text))
-        (cond (starts_in_any_case (b ∷ text) (codes "https://")) (literal_of n.Protocol 8 (b ∷ text)) None))) http
-        ∙ ap (λ x. option_map address (cond x (literal_of n.Protocol 8 (b ∷ text)) None)) https
+quiet-first : (b : ℕ) (text : List ℕ) → is_quiet (b ∷ text) ≡ true → Quiet b text
+quiet-first b [] h = cc
+quiet-first b (c ∷ text) h =
+    go (one_of (codes "Hh") b) (one_of (codes "Tt") c) (one_of (codes "Ww") b) (one_of (codes "Ww") c) refl refl refl
+    refl h
+  where
+    by-h : one_of (codes "Hh") b ≡ true → one_of (codes "Tt") c ≡ false → Quiet b (c ∷ text)
+    by-h e f = record {
+      none = quiet-h b c text e f;
+      others =
+          others-unlike (one_of (codes "Hh")) b e refl refl refl refl refl refl refl refl refl refl refl;
+      dark = dark-unlike (one_of (codes "Hh")) b e refl refl;
+    }
+
+    by-w : one_of (codes "Ww") b ≡ true → one_of (codes "Ww") c ≡ false → Quiet b (c ∷ text)
+    by-w e f = record {
+      none = quiet-w b c text e f;
+      others =
+          others-unlike (one_of (codes "Ww")) b e refl refl refl refl refl refl refl refl refl refl refl;
+      dark = dark-unlike (one_of (codes "Ww")) b e refl refl;
+    }
+
+    go : (x y z u : Bool) → one_of (codes "Hh") b ≡ x → one_of (codes "Tt") c ≡ y → one_of (codes "Ww") b ≡ z →
+        one_of (codes "Ww") c ≡ u → ((x && not y) || (z && not u)) ≡ true → Quiet b (c ∷ text)
+    go true false z u e f g k h = by-h e f
+    go true true true false e f g k h = by-w g k
+    go true true true true e f g k h = cc
+    go true true false u e f g k h = cc
+    go false y true false e f g k h = by-w g k
+    go false y true true e f g k h = cc
+    go false y false u e f g k h = cc
 
 when-none : (on : Bool) (found : Option Forest) → found ≡ None → when on found ≡ None
 when-none true found h = h
@@ -241,10 +301,10 @@ no-trailing hard text h =
     let zero : (trailing_len text == 0) ≡ true = ap (λ (k : ℕ). k == 0) h in
     rw zero refl
 
-no-atom : (options : InlineOptions) (outside : Bool) (before : List ℕ) (b : ℕ) (text : List ℕ) → Others b →
-    not (options.constructs.gfm_autolink_literal && list_any (λ c. c == b) (codes "HWhw")) ≡ true →
+no-atom : (options : InlineOptions) (outside : Bool) (before : List ℕ) (b : ℕ) (text : List ℕ) → Unbound b →
+    when (options.constructs.gfm_autolink_literal && outside) (option_map address (literal_at before (b ∷ text))) ≡ None →
     trailing_len (b ∷ text) ≡ 0 → atom options outside before (b ∷ text) ≡ None
-no-atom options outside before b text p h trail =
+no-atom options outside before b text p none trail =
     let on = options.constructs in
     let escape : escape_at (b ∷ text) ≡ None = rw p.slash refl in
     let hard : break_escape_at (b ∷ text) ≡ None = rw p.slash refl in
@@ -261,7 +321,54 @@ no-atom options outside before b text p h trail =
     (none-else _ _ (when-none on.autolink _ autolink)
     (none-else _ _ (when-none on.html_text _ html)
     (none-else _ _ (no-trailing on.hard_break_trailing (b ∷ text) trail)
-    (no-address on.gfm_autolink_literal outside before b text h))))))))
+    none)))))))
+
+unbound : (b : ℕ) → Others b → Unbound b
+unbound b p = record {
+  dollar = p.dollar;
+  ampersand = p.ampersand;
+  less = p.less;
+  slash = p.slash;
+  tick = p.tick;
+}
+
+-- A mark or a bracket.
+
+bare-unbound : (b : ℕ) → is_bare b ≡ true → Unbound b
+bare-unbound b h = record {
+  dollar = unlike is_bare b 36 h refl;
+  ampersand = unlike is_bare b 38 h refl;
+  less = unlike is_bare b 60 h refl;
+  slash = unlike is_bare b 92 h refl;
+  tick = unlike is_bare b 96 h refl;
+}
+
+bare-first : (b : ℕ) (text : List ℕ) → is_bare b ≡ true → NoAddress (b ∷ text)
+bare-first b text h =
+    other-first b text (low-other 119 b 87 (unlike is_bare b 119 h refl) (unlike is_bare b 87 h refl) refl)
+    (low-other 104 b 72 (unlike is_bare b 104 h refl) (unlike is_bare b 72 h refl) refl)
+
+pub bare-atom : (options : InlineOptions) (outside : Bool) (before : List ℕ) (b : ℕ) (following text : List ℕ) →
+    text ≡ b ∷ following → is_bare b ≡ true → atom options outside before text ≡ None
+bare-atom options outside before b following text is h =
+    ap (atom options outside before) is
+    ∙ no-atom options outside before b following (bare-unbound b h)
+    (none-there (options.constructs.gfm_autolink_literal && outside) before (b ∷ following) (bare-first b following h))
+    (dark-trailing b following (dark-unlike is_bare b h refl refl))
+
+-- A text with escapes and character references alone.
+
+pub no-string_atom : (options : InlineOptions) (text : List ℕ) → may_begin_string_atom text ≡ false →
+    string_atom options text ≡ None
+no-string_atom options [] h =
+    none-else _ _ (when-none options.constructs.character_escape _ refl)
+    (when-none options.constructs.character_reference _ refl)
+no-string_atom options (b ∷ text) h =
+    let parts : ((b == 92) ≡ false) × ((b == 38) ≡ false) = or_parts (b == 92) (b == 38) h in
+    let escape : escape_at (b ∷ text) ≡ None = rw parts.0 refl in
+    let reference : reference_forest (b ∷ text) ≡ None = rw parts.1 refl in
+    none-else _ _ (when-none options.constructs.character_escape _ escape)
+    (when-none options.constructs.character_reference _ reference)
 
 -- what is at the front, by the atom that is there
 abbrev front_by : InlineOptions → Bool → List ℕ → ℕ → List ℕ → Option Forest → Front
@@ -274,22 +381,15 @@ front_by options inside before b text found = elim found as (λ o. Front) [
       else is_text)
 ]
 
-pub front-text : (options : InlineOptions) (inside : Bool) (before : List ℕ) (b : ℕ) (text : List ℕ) →
-    is_plain options.constructs.gfm_autolink_literal b ≡ true → trailing_len (b ∷ text) ≡ 0 →
-    front_at options inside before b (b ∷ text) ≡ is_text
-front-text options inside before b text plain trail =
+front-text : (options : InlineOptions) (inside : Bool) (before : List ℕ) (b : ℕ) (text : List ℕ) → Others b →
+    when (options.constructs.gfm_autolink_literal && not inside) (option_map address (literal_at before (b ∷ text))) ≡
+    None →
+    trailing_len (b ∷ text) ≡ 0 → front_at options inside before b (b ∷ text) ≡ is_text
+front-text options inside before b text p none trail =
     ap (front_by options inside before b text)
-    (no-atom options (not inside) before b text p parts.1 trail)
+    (no-atom options (not inside) before b text (unbound b p) none trail)
     ∙ rest inside
   where
-    parts : (not (list_any (λ c. c == b) (codes "!$&*<[\\]_`~")) ≡ true) ×
-        (not (options.constructs.gfm_autolink_literal && list_any (λ c. c == b) (codes "HWhw")) ≡ true)
-    parts = and_parts (not (list_any (λ c. c == b) (codes "!$&*<[\\]_`~")))
-        (not (options.constructs.gfm_autolink_literal && list_any (λ c. c == b) (codes "HWhw"))) plain
-
-    p : Others b
-    p = others b (not-true (list_any (λ c. c == b) (codes "!$&*<[\\]_`~")) parts.0)
-
     mark : is_mark options b ≡ false
     mark = rw (p.star, p.under, p.tilde) refl
 
@@ -311,3 +411,47 @@ front-text options inside before b text plain trail =
         (λ (k : ℕ).
         cond (not (k == 0)) (opens k) (cond (i && (b == right_bracket)) closes is_text)) no-opening
         ∙ ap (λ t. cond t closes is_text) (last i)
+
+-- a byte of text
+pub text-front : (options : InlineOptions) (inside : Bool) (before : List ℕ) (b : ℕ) (text : List ℕ) →
+    begins_text options.constructs.gfm_autolink_literal (b ∷ text) ≡ true →
+    front_at options inside before b (b ∷ text) ≡ is_text
+text-front options inside before b text passes = go (is_plain literals b) (is_quiet (b ∷ text)) refl refl parts.0
+  where
+    literals : Bool
+    literals = options.constructs.gfm_autolink_literal
+
+    parts : ((is_plain literals b || is_quiet (b ∷ text)) ≡ true) × ((trailing_len (b ∷ text) == 0) ≡ true)
+    parts = and_parts (is_plain literals b || is_quiet (b ∷ text)) (trailing_len (b ∷ text) == 0) passes
+
+    trail : trailing_len (b ∷ text) ≡ 0
+    trail = let test = parts.1 in grind (arith, nat_tests, test)
+
+    go : (x y : Bool) → is_plain literals b ≡ x → is_quiet (b ∷ text) ≡ y → (x || y) ≡ true →
+        front_at options inside before b (b ∷ text) ≡ is_text
+    go true y e f h =
+        let both : (not (list_any (λ c. c == b) (codes "!$&*<[\\]_`~")) ≡ true) ×
+        (not (literals && list_any (λ c. c == b) (codes "HWhw")) ≡ true) =
+        and_parts (not (list_any (λ c. c == b) (codes "!$&*<[\\]_`~")))
+        (not (literals && list_any (λ c. c == b) (codes "HWhw"))) e in
+        front-text options inside before b text
+        (others b (not-true (list_any (λ c. c == b) (codes "!$&*<[\\]_`~")) both.0))
+        (no-address literals (not inside) before b text both.1) trail
+    go false true e f h =
+        let q : Quiet b text = quiet-first b text f in
+        front-text options inside before b text (others b q.others)
+        (none-there (literals && not inside) before (b ∷ text) q.none) trail
+    go false false e f h = cc
+
+-- two bytes with which no address begins
+pub quiet-text : (literals : Bool) (text : List ℕ) → is_quiet text ≡ true → begins_text literals text ≡ true
+quiet-text literals [] h = cc
+quiet-text literals (b ∷ text) h =
+    let none : trailing_len (b ∷ text) ≡ 0 = dark-trailing b text (quiet-first b text h).dark in
+    ap (λ (t : Bool). (is_plain literals b || t) && (trailing_len (b ∷ text) == 0)) h
+    ∙ ap (λ (n : ℕ). (is_plain literals b || true) && (n == 0)) none
+    ∙ go (is_plain literals b)
+  where
+    go : (t : Bool) → ((t || true) && true) ≡ true
+    go true = refl
+    go false = refl

@@ -73,6 +73,13 @@ holes-append zero b c h = ap holes (omega (arith, h))
 holes-append (suc a) b zero h = absurd (omega (arith, h))
 holes-append (suc a) b (suc c) h = ap (λ (l : List Span). hole ∷ l) (holes-append a b c (omega (arith, h)))
 
+-- three at once
+pub three-more : (spans : List Span) (left : ℕ) → 3 ≤ left →
+    (spans ++ (hole ∷ hole ∷ hole ∷ [])) ++ holes (left - 3) ≡ spans ++ holes left
+three-more spans left h =
+    append_assoc spans (hole ∷ hole ∷ hole ∷ []) (holes (left - 3))
+    ∙ ap (λ (l : List Span). spans ++ l) (sym (holes-append 3 (left - 3) left (omega (arith, h))))
+
 -- those of a run, three for each byte if it may open
 pub run-places : (left : ℕ) (spans : List Span) (x : Bool) → x ≡ true →
     ((spans ++ holes left) ++ holes left) ++ holes left ≡ spans ++ holes (left * width x)

@@ -1,8 +1,10 @@
 -- Atoms as a reader has them, the forests that they are, and their spans.
-use Rattle.std.specs.Prelude.{ℕ, ◌+◌, ◌-◌, ◌==◌, if◌then◌else◌, List, [], ◌∷◌, Option, option_map}
+use Rattle.std.specs.Prelude.{ℕ, ◌+◌, ◌-◌, Bool, false, ◌||◌, ◌==◌, if◌then◌else◌, List, [], ◌∷◌, Option, option_map}
 use Rattle.md_engine.specs.declared.event.Name.{Name}
 use Rattle.md_engine.specs.declared.event.Name.TheVariants as n
+use Rattle.md_meaning.specs.Ascii.{backslash}
 use Rattle.md_inline_events.specs.Forest.{Forest, nothing, over, part}
+use Rattle.md_inlines.specs.Escape.{ampersand}
 use Rattle.md_inlines.specs.Literal.{literal_at}
 use Rattle.md_inlines.specs.declared.Raw.{Raw}
 use Rattle.md_inlines.specs.declared.Reference.{Reference}
@@ -27,6 +29,11 @@ atom_forest (a.Literal l) = address l
 
 abbrev pub found : Option Atom → Option Forest
 found atom = option_map atom_forest atom
+
+-- whether an escape or a character reference may be first
+abbrev pub may_begin_string_atom : List ℕ → Bool
+may_begin_string_atom [] = false
+may_begin_string_atom (b ∷ text) = (b == backslash) || (b == ampersand)
 
 abbrev pub address_at : List ℕ → List ℕ → Option Forest
 address_at before text = option_map address (literal_at before text)

@@ -1,5 +1,5 @@
 -- Bytes that begin nothing.
-use Rattle.std.specs.Prelude.{ℕ, ◌+◌, Bool, false, ◌&&◌, ◌==◌, not, if◌then◌else◌, List, [], ◌∷◌, codes}
+use Rattle.std.specs.Prelude.{ℕ, ◌+◌, Bool, false, ◌&&◌, ◌||◌, ◌==◌, not, if◌then◌else◌, List, [], ◌∷◌, codes}
 use Rattle.std.specs.List.{list_any}
 use Rattle.md_meaning.specs.Ascii.{line_feed}
 use Rattle.md_inlines.specs.Breaks.{trailing_len}
@@ -20,7 +20,24 @@ abbrev pub line_end : ℕ → ℕ → List ℕ → ℕ
 line_end dark len [] = dark
 line_end dark len (b ∷ rest) = if not (b == line_feed) then len else if dark == len then len + 1 else dark
 
+-- whether the first of two bytes is that of `http` or `www`, in any case, and the second is not
+abbrev pub differs : ℕ → ℕ → Bool
+differs b c =
+    (list_any (λ x. x == b) (codes "Hh") && not (list_any (λ x. x == c) (codes "Tt")))
+    || (list_any (λ x. x == b) (codes "Ww") && not (list_any (λ x. x == c) (codes "Ww")))
+
+-- whether a text begins with two such bytes: no address is there
+abbrev pub is_quiet : List ℕ → Bool
+is_quiet [] = false
+is_quiet (b ∷ []) = false
+is_quiet (b ∷ c ∷ text) = differs b c
+
 -- whether a text begins with a byte of text
 abbrev pub begins_text : Bool → List ℕ → Bool
 begins_text literals [] = false
-begins_text literals (b ∷ text) = is_plain literals b && (trailing_len (b ∷ text) == 0)
+begins_text literals (b ∷ text) =
+    (is_plain literals b || is_quiet (b ∷ text)) && (trailing_len (b ∷ text) == 0)
+
+-- whether a byte is a mark or a bracket, with which no atom begins
+abbrev pub is_bare : ℕ → Bool
+is_bare b = list_any (λ c. c == b) (codes "!*[]_~")

@@ -231,10 +231,23 @@ pub(crate) fn atom_unless(
     when(on.gfm_autolink_literal && outside, address_at(before, text))
 }
 
+/// Whether an escape or a character reference may be at the front of a text.
+fn may_begin_string_atom(text: &[u8]) -> bool
+    ensures { result ≡ spec.may_begin_string_atom text.now }
+{
+    match text {
+        [byte, ..] => *byte == b'\\' || *byte == b'&',
+        [] => false,
+    }
+}
+
 /// The atom at the front of a text in which there are escapes and character references alone.
 pub(crate) fn string_atom(options: &InlineOptions, text: &[u8]) -> Option<Atom>
     ensures { found result ≡ targets.string_atom options.now text.now }
 {
+    if !may_begin_string_atom(text) {
+        return None;
+    }
     let on = options.constructs;
     if let Some(atom) = when(on.character_escape, escape_at(text)) {
         return Some(atom);

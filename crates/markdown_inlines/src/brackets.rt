@@ -6,13 +6,16 @@
 ghost use Rattle.std.specs.Prelude.{◌≡◌, ℕ, ◌+◌, ◌||◌, ◌≤◌, ◌++◌, ◌∷◌, [], IfOk, IfSome, OnOk, List, Some, None};
 ghost use Rattle.std.specs.Prelude.{drop, length, map, option_map, string_bytes, take};
 ghost use Rattle.md_inline_events.specs.Forest.{size};
+ghost use Rattle.md_inlines.specs.Atoms as inlines;
 ghost use Rattle.md_inlines.specs.Content as content;
 ghost use Rattle.md_inlines.specs.Emphasis as emphasis;
 ghost use Rattle.md_inlines.specs.Emphasis.{Item};
 ghost use Rattle.markdown_inlines.specs.Closed as closed;
 ghost use Rattle.markdown_inlines.specs.Ends.{AreEnds, IsAbsent};
 ghost use Rattle.markdown_inlines.specs.Filled.{Filled, Placed, Shows};
+ghost use Rattle.markdown_inlines.specs.Found.{found};
 ghost use Rattle.markdown_inlines.specs.Opened.{bracket_room};
+ghost use Rattle.markdown_inlines.specs.Plain.{is_bare};
 ghost use Rattle.markdown_inlines.specs.Reading as spec;
 ghost use Rattle.markdown_inlines.specs.Reads.{ClosedAs, Closing, Goes, Passes, Reads};
 ghost use Rattle.markdown_inlines.specs.Spans.{holes, span_of, write};
@@ -167,6 +170,33 @@ fn opening_at(options: &InlineOptions, text: &[u8]) -> Opening
     }
 }
 
+/// Whether no atom begins with this byte.
+fn is_bare(byte: u8) -> bool
+    ensures { result ≡ is_bare byte }
+{
+    matches!(byte, b'!' | b'*' | b'[' | b']' | b'_' | b'~')
+}
+
+/// The atom at the front of a text that begins with this byte, after another.
+fn atom_from(
+    options: &InlineOptions,
+    outside: bool,
+    absent: Absent,
+    before: &[u8],
+    byte: u8,
+    text: &[u8],
+) -> Option<Atom>
+    requires absent { IsAbsent absent text.now }
+    requires is { (following : List ℕ) × (text.now ≡ byte ∷ following) }
+    ensures { found result ≡ inlines.atom options.now outside before.now text.now }
+{
+    if is_bare(byte) {
+        None
+    } else {
+        atom_unless(options, outside, absent, before, text)
+    }
+}
+
 /// What is at the front of a text that begins with this byte, after another; `inside` says that a bracket is open.
 /// Some searches are known to fail there.
 fn front_at(
@@ -177,10 +207,11 @@ fn front_at(
     byte: u8,
     text: &[u8],
 ) -> Front
-    requires { IsAbsent absent text.now }
+    requires absent { IsAbsent absent text.now }
+    requires is { (following : List ℕ) × (text.now ≡ byte ∷ following) }
     ensures { spec.front_of result ≡ spec.front_at options.now inside before.now byte text.now }
 {
-    if let Some(found) = atom_unless(options, !inside, absent, before, text) {
+    if let Some(found) = atom_from(options, !inside, absent, before, byte, text) {
         return Front::Found(found);
     }
     if is_mark(options, byte) {

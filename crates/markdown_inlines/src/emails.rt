@@ -12,7 +12,7 @@ ghost use Rattle.markdown_inlines.specs.Addressed as spec;
 ghost use Rattle.markdown_inlines.specs.Readable.{is_readable};
 
 use crate::atom::literal_name;
-use crate::slices::{after, front};
+use crate::slices::{after, front, with_room};
 use crate::span::past;
 use md_engine::event::Name;
 use md_engine::message::Message;
@@ -30,11 +30,18 @@ struct Joined {
     text: usize,
 }
 
+/// Whether an `@` is among these bytes.
+fn has_at_sign(text: &[u8]) -> bool
+    ensures { result ≡ spec.has_at_sign text.now }
+{
+    text.contains(&b'@')
+}
+
 /// Whether addresses are searched in a text: none is where no `@` is. `literals` says whether they are read.
 pub(crate) fn may_have_address(literals: bool, text: &[u8]) -> bool
     ensures { result ≡ (literals && spec.has_at_sign text.now) }
 {
-    literals && text.contains(&b'@')
+    literals && has_at_sign(text)
 }
 
 /// How many bytes of text a token is; none of another.
@@ -135,6 +142,10 @@ fn add_addresses(joined: &mut Joined, text: &[u8], start: usize) -> Result<(), M
     ensures { OnOk result
         (IsAdded (tokens_of (emails.emails_in (take start text.now) (drop start text.now))) joined.old joined.new) }
 {
+    let rest = after(text, start);
+    if !has_at_sign(rest) {
+        return add(joined, Token::Over(Name::Data, rest.len()));
+    }
     let mut at = start;
     while let Some((_byte, _following)) = after(text, at).split_first() {
         let token = first_token(front(text, at), after(text, at));
@@ -214,7 +225,7 @@ pub(crate) fn with_addresses(
         (atoms.merged (emails.with_emails (take start text.now) (drop start text.now) forest))) }
 {
     let mut joined = Joined {
-        tokens: Vec::new(alloc),
+        tokens: with_room(alloc, tokens.len())?,
         text: 0,
     };
     let mut at = start;

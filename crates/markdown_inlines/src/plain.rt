@@ -1,12 +1,16 @@
 // Bytes that begin nothing: text, taken many at once.
 
-ghost use Rattle.std.specs.Prelude.{◌≡◌, ℕ, ◌<◌, ◌≤◌, ◌+◌, ◌-◌, ◌^◌, true, false, drop, get_or, length};
+ghost use Rattle.std.specs.Prelude.{◌≡◌, ℕ, ◌<◌, ◌≤◌, ◌+◌, ◌-◌, ◌^◌, ◌==◌, true, false, not, if◌then◌else◌, drop};
+ghost use Rattle.std.specs.Prelude.{get_or, length, map, take};
+ghost use Rattle.std.specs.Int.{trailing_zeros, w64};
+ghost use Rattle.std.specs.Simd.Lanes.{mask_l};
 ghost use Rattle.std.specs.List.{prefix_len};
 ghost use Rattle.md_meaning.specs.Rest as rest;
 ghost use Rattle.markdown_inlines.specs.Plain as spec;
 
 use crate::slices::after;
 use md_scan::bytes::is_white;
+use std::simd::prelude::*;
 
 /// Whether nothing but trailing whitespace begins with this byte; `literals` says whether addresses without angle
 /// brackets are read.
@@ -27,14 +31,98 @@ fn is_inner(literals: bool, byte: u8) -> bool
     byte != b'\n' && is_plain(literals, byte)
 }
 
-/// How many of these come first.
-fn inner_len(literals: bool, text: &[u8]) -> usize
+/// How many of these come first, counted one by one.
+fn each_inner_len(literals: bool, text: &[u8]) -> usize
     ensures value { result ≡ prefix_len (spec.is_inner literals) text.now }
     ensures bound { result ≤ length text.now }
 {
     text.iter()
         .take_while(|byte| is_inner(literals, **byte))
         .count()
+}
+
+/// The place of the lowest bit that is set, or 16 where none is.
+#[inline(always)]
+fn lowest_bit(mask: u64) -> usize
+    ensures { result ≡ if mask == 0 then 16 else trailing_zeros w64 mask }
+{
+    if mask == 0 {
+        16
+    } else {
+        mask.trailing_zeros() as usize
+    }
+}
+
+/// The bits of the bytes that are none of these, where no address is read.
+#[inline(always)]
+fn stops(bytes: u8x16) -> u64
+    ensures { result ≡ mask_l (map (λ b. not (spec.is_inner false b)) bytes) }
+{
+    (bytes.simd_eq(u8x16::splat(b'\n'))
+        | bytes.simd_eq(u8x16::splat(b'!'))
+        | bytes.simd_eq(u8x16::splat(b'$'))
+        | bytes.simd_eq(u8x16::splat(b'&'))
+        | bytes.simd_eq(u8x16::splat(b'*'))
+        | bytes.simd_eq(u8x16::splat(b'<'))
+        | bytes.simd_eq(u8x16::splat(b'['))
+        | bytes.simd_eq(u8x16::splat(b'\\'))
+        | bytes.simd_eq(u8x16::splat(b']'))
+        | bytes.simd_eq(u8x16::splat(b'_'))
+        | bytes.simd_eq(u8x16::splat(b'`'))
+        | bytes.simd_eq(u8x16::splat(b'~'))).to_bitmask()
+}
+
+/// The same, where addresses are read.
+#[inline(always)]
+fn stops_or_addresses(bytes: u8x16) -> u64
+    ensures { result ≡ mask_l (map (λ b. not (spec.is_inner true b)) bytes) }
+{
+    (bytes.simd_eq(u8x16::splat(b'\n'))
+        | bytes.simd_eq(u8x16::splat(b'!'))
+        | bytes.simd_eq(u8x16::splat(b'$'))
+        | bytes.simd_eq(u8x16::splat(b'&'))
+        | bytes.simd_eq(u8x16::splat(b'*'))
+        | bytes.simd_eq(u8x16::splat(b'<'))
+        | bytes.simd_eq(u8x16::splat(b'['))
+        | bytes.simd_eq(u8x16::splat(b'\\'))
+        | bytes.simd_eq(u8x16::splat(b']'))
+        | bytes.simd_eq(u8x16::splat(b'_'))
+        | bytes.simd_eq(u8x16::splat(b'`'))
+        | bytes.simd_eq(u8x16::splat(b'~'))
+        | bytes.simd_eq(u8x16::splat(b'H'))
+        | bytes.simd_eq(u8x16::splat(b'W'))
+        | bytes.simd_eq(u8x16::splat(b'h'))
+        | bytes.simd_eq(u8x16::splat(b'w'))).to_bitmask()
+}
+
+/// How many of the 16 bytes in front are such bytes, up to the first that is not: all are compared at once.
+#[inline(always)]
+fn inner_of_16(literals: bool, text: &[u8]) -> usize
+    requires { 16 ≤ length text.now }
+    ensures { result ≡ prefix_len (spec.is_inner literals) (take 16 text.now) }
+{
+    let bytes = u8x16::from_slice(text);
+    if literals {
+        lowest_bit(stops_or_addresses(bytes))
+    } else {
+        lowest_bit(stops(bytes))
+    }
+}
+
+/// How many of these come first: 16 are compared at once, and the last ones one by one.
+fn inner_len(literals: bool, text: &[u8]) -> usize
+    ensures value { result ≡ prefix_len (spec.is_inner literals) text.now }
+    ensures bound { result ≤ length text.now }
+{
+    let mut at = 0;
+    while 16 <= text.len() - at {
+        let count = inner_of_16(literals, &text[at..]);
+        if count < 16 {
+            return at + count;
+        }
+        at += 16;
+    }
+    at + each_inner_len(literals, &text[at..])
 }
 
 /// How many bytes are before the whitespace at the end of a line.
@@ -83,16 +171,46 @@ fn line_len(literals: bool, text: &[u8]) -> usize
     line_end(dark, len, rest)
 }
 
+/// Whether the first of two bytes is that of `http` or `www`, in any case, and the second is not.
+fn differs(first: u8, second: u8) -> bool
+    ensures { result ≡ spec.differs first second }
+{
+    match first {
+        b'H' | b'h' => !(second == b'T' || second == b't'),
+        b'W' | b'w' => !(second == b'W' || second == b'w'),
+        _ => false,
+    }
+}
+
+/// Whether no address begins, since the second byte is another, with a byte with which one may begin.
+fn is_quiet(text: &[u8]) -> bool
+    ensures { result ≡ spec.is_quiet text.now }
+{
+    match text {
+        [first, second, ..] => differs(*first, *second),
+        _ => false,
+    }
+}
+
+/// How many bytes of text are at the front: up to where a line ends, or a byte that begins no address.
+fn piece_len(literals: bool, text: &[u8]) -> usize
+    ensures text { (k : ℕ) → k < result → spec.begins_text literals (drop k text.now) ≡ true }
+    ensures bound { result ≤ length text.now }
+{
+    let len = line_len(literals, text);
+    if len == 0 && is_quiet(text) { 1 } else { len }
+}
+
 /// How many bytes of text are at the front.
 pub(crate) fn text_len(literals: bool, text: &[u8]) -> usize
     ensures text { (k : ℕ) → k < result → spec.begins_text literals (drop k text.now) ≡ true }
     ensures bound { result ≤ length text.now }
 {
     let mut at = 0;
-    let mut len = line_len(literals, text);
+    let mut len = piece_len(literals, text);
     while len > 0 {
         at += len;
-        len = line_len(literals, after(text, at));
+        len = piece_len(literals, after(text, at));
     }
     at
 }

@@ -62,6 +62,10 @@ pub(crate) fn push_places(spans: &mut Vec<Span>, count: usize) -> Result<(), Mes
     ensures { OnOk result (spans.new.items ≡ spans.old.items ++ holes count) }
 {
     let mut left = count;
+    while left >= 3 {
+        push_spans(spans, &[PLACE, PLACE, PLACE])?;
+        left -= 3;
+    }
     while left > 0 {
         push(spans, PLACE)?;
         left -= 1;

@@ -14,6 +14,7 @@ ghost use Rattle.markdown_inlines.specs.Filled.{Shows};
 ghost use Rattle.markdown_inlines.specs.Readable.{is_readable};
 ghost use Rattle.markdown_inlines.specs.Tokens.{begun, ends, opened, past_begun, still_open, text};
 
+use crate::slices::with_room;
 use crate::span::Span;
 use md_engine::event::Name;
 use md_engine::message::Message;
@@ -182,7 +183,7 @@ pub(crate) fn tokens_of(
     ensures { (forest : Forest) → is_readable forest ≡ true → merged forest ≡ forest → start + size forest ≡ end →
         Shows start [] forest spans.now → IfOk result (λ made. made.items ≡ listed.tokens forest) }
 {
-    let mut tokens = Vec::new(alloc);
+    let mut tokens = with_room(alloc, spans.len().saturating_mul(2).saturating_add(1))?;
     let mut parts = Vec::new(alloc);
     let mut at = start;
     let mut rest = spans;

@@ -4,3 +4,4 @@ pub mod StretchLemmas
 pub mod ChunkSteps
 pub mod LineSteps
 pub mod SpanSteps
+pub mod LineLemmas

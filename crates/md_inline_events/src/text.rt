@@ -9,6 +9,7 @@ ghost use Rattle.md_inline_events.specs.Room.{IsStretch};
 ghost use Rattle.md_inline_events.specs.SidesOf.{text_bytes};
 ghost use Rattle.md_inline_events.specs.Woven as woven;
 
+use md_engine::class::above_cr_len;
 use md_engine::message::Message;
 use md_engine::parse_state::ParseState;
 use md_events::inline::{Chunk, PartKind};
@@ -25,13 +26,22 @@ pub(crate) struct Sides<'a> {
     pub(crate) ending: &'a [u8],
 }
 
-/// How many bytes are before the first ending of a line.
-fn line_len(text: &[u8]) -> usize
-    ensures { result ≡ length (without_ending text.now) }
+/// How many bytes are before the first ending of a line, counted one by one.
+fn each_line_len(text: &[u8]) -> usize
+    ensures value { result ≡ length (without_ending text.now) }
+    ensures bound { result ≤ length text.now }
 {
     text.iter()
         .take_while(|byte| **byte != b'\n' && **byte != b'\r')
         .count()
+}
+
+/// The same: many bytes at once, up to a tab.
+fn line_len(text: &[u8]) -> usize
+    ensures { result ≡ length (without_ending text.now) }
+{
+    let at = above_cr_len(text);
+    at + each_line_len(&text[at..])
 }
 
 /// How many bytes at the front of a line are whitespace that is left out.

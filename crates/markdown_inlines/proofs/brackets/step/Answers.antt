@@ -6,6 +6,9 @@ use Rattle.markdown_inlines.proofs.StepLemmas.{Popped, atom-goes, close-goes, he
 use Rattle.markdown_inlines.proofs.StepLemmas.{open-goes, popped, run-goes, text-goes}
 use Rattle.markdown_inlines.proofs.brackets.step.Goals as goal
 
+pub front_at-requires-clause-is : goal.front_at-requires-clause-is
+front_at-requires-clause-is c = (c.args.following.now, c.after-rest.ensures ∙ c.requires.is)
+
 pub returns-in-Found : goal.returns-in-Found
 returns-in-Found c =
     on_ok_weaker c.add_atom.result
