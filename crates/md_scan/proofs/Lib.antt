@@ -1,3 +1,4 @@
 pub mod DefinitionLemmas
+mod FoldLemmas
 pub mod TextWords
 pub mod WordLemmas
