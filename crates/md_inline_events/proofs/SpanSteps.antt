@@ -1,13 +1,16 @@
 -- Bytes of text are passed at once: each is one column.
-use Rattle.std.proofs.Common.{◌≡◌, ℕ, zero, suc, ◌+◌, ◌-◌, ◌<◌, ◌≤◌, true, false, List, [], ◌∷◌, length, drop}
+use Rattle.std.proofs.Common.{◌≡◌, ℕ, zero, suc, ◌+◌, ◌-◌, ◌<◌, ◌≤◌, Bool, true, false, List, [], ◌∷◌, ◌++◌, length}
+use Rattle.std.proofs.Common.{drop}
 use Rattle.std.proofs.Common.{refl, ap, sym, ◌∙◌, arith}
-use Rattle.std.specs.Prelude.{◌==◌, slice_index}
+use Rattle.std.specs.Prelude.{◌==◌, ◌&&◌, slice_index}
+use Rattle.std.proofs.lemmas.List.Folds.{list_all-append}
 use Rattle.md_engine.specs.Classes.{IsSpan, has}
 use Rattle.md_engine.specs.declared.class.Class.TheVariants.{Text}
 use Rattle.md_engine.specs.declared.event.Point.{Point}
 use Rattle.md_engine.proofs.ClassLemmas.{no-ending}
 use Rattle.md_events.specs.Events.Places.{past_byte, past_text}
 use Rattle.md_events.proofs.PlainRuns.{ahead}
+use Rattle.md_inline_events.specs.Room.{is_even}
 
 ahead-none : (p : Point) → p ≡ ahead 0 p
 ahead-none p =
@@ -40,3 +43,50 @@ span_step rest following left b count at to next end r t span l n all =
     ∙ sym (span-past count following (past_byte b at) span.within span.each (omega arith) refl)
     ∙ ap (λ (x : List ℕ). past_text x at) (sym r)
     ∙ all
+
+-- Lines of which each byte is one column.
+
+both-parts : (x y : Bool) → (x && y) ≡ true → (x ≡ true) × (y ≡ true)
+both-parts true true h = (refl, refl)
+both-parts true false h = cc
+both-parts false y h = cc
+
+pub even-all : (line : List ℕ) (count : ℕ) → IsSpan Text line count → length line ≤ count → is_even line ≡ true
+even-all line count span all = go line (λ k h. span.each k (omega (arith, h, all)))
+  where
+    go : (line : List ℕ) → ((k : ℕ) → k < length line → has Text (slice_index line k) ≡ true) → is_even line ≡ true
+    go [] each = refl
+    go (b ∷ line) each =
+        ap (λ (x : Bool). x && is_even line) (each 0 (omega arith))
+        ∙ go line (λ k h. each (suc k) (omega (arith, h)))
+
+pub even-parts : (line run following : List ℕ) → line ≡ run ++ following → is_even line ≡ true →
+    (is_even run ≡ true) × (is_even following ≡ true)
+even-parts line run following is even =
+    both-parts (is_even run) (is_even following)
+    (sym (list_all-append (has Text) run following) ∙ ap is_even (sym is) ∙ even)
+
+ahead-all : (line : List ℕ) (p : Point) → is_even line ≡ true → 1 ≤ p.column → p.vs ≡ 0 →
+    past_text line p ≡ ahead (length line) p
+ahead-all [] p even first none = ahead-none p
+ahead-all (b ∷ line) p even first none =
+    let parts : (has Text b ≡ true) × (is_even line ≡ true) = both-parts (has Text b) (is_even line) even in
+    let plain = no-ending Text b parts.0 in
+    ahead-all line (past_byte b p) parts.1 (omega arith) refl ∙ ahead-more b (length line) p first none plain.1
+
+-- the point after them
+pub even-past : (line : List ℕ) (p : Point) → is_even line ≡ true → 0 < length line →
+    past_text line p ≡
+    record {
+      line = p.line;
+      column = p.column - 1 + 1 + length line;
+      index = p.index + length line;
+      vs = 0;
+    }
+even-past [] p even some = absurd (omega (arith, some))
+even-past (b ∷ line) p even some =
+    let parts : (has Text b ≡ true) × (is_even line ≡ true) = both-parts (has Text b) (is_even line) even in
+    let plain = no-ending Text b parts.0 in
+    let column : p.column - 1 + 1 + 1 + length line ≡ p.column - 1 + 1 + suc (length line) = omega arith in
+    let index : p.index + 1 + length line ≡ p.index + suc (length line) = omega arith in
+    ahead-all line (past_byte b p) parts.1 (omega arith) refl ∙ rw (plain.1, column, index) refl

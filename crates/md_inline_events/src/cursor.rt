@@ -22,6 +22,7 @@ pub(crate) struct Cursor<'a> {
 }
 
 /// Whether this is a piece over bytes.
+#[inline(always)]
 fn is_piece(token: Token) -> bool
     ensures { result ≡ spec.is_piece token }
 {
@@ -29,6 +30,7 @@ fn is_piece(token: Token) -> bool
 }
 
 /// How many tokens are before the next piece.
+#[inline(always)]
 #[tactic(auto, using(crate::proofs::CursorLemmas::piece_here, crate::proofs::CursorLemmas::piece_later))]
 fn opening_len(tokens: &[Token]) -> usize
     ensures { result ≡ spec.before_piece tokens.now }
@@ -42,6 +44,7 @@ fn opening_len(tokens: &[Token]) -> usize
 }
 
 /// The name of a piece, and over how many bytes it is.
+#[inline(always)]
 fn piece_of(token: Token) -> (Name, usize)
     ensures { result ≡ (spec.piece_name token, spec.piece_len token) }
 {
@@ -54,6 +57,7 @@ fn piece_of(token: Token) -> (Name, usize)
 /// Begins the parts that begin among tokens.
 ///
 /// An `Err` says that memory ran out.
+#[inline(always)]
 fn enter_all(events: &mut Vec<Event>, tokens: &[Token], point: Point) -> Result<(), Message>
     ensures { OnOk result (events.new.items ≡ events.old.items ++ mark.entered (spec.entering tokens.now) point) }
 {
@@ -69,6 +73,7 @@ fn enter_all(events: &mut Vec<Event>, tokens: &[Token], point: Point) -> Result<
 /// follows, and where the next piece begins.
 ///
 /// An `Err` says that memory ran out.
+#[inline(always)]
 fn exit_all<'a>(
     events: &mut Vec<Event>,
     tokens: &'a [Token],
@@ -103,6 +108,7 @@ fn exit_all<'a>(
 /// byte began.
 ///
 /// An `Err` says that memory ran out.
+#[inline(always)]
 pub(crate) fn push_front<'a>(
     events: &mut Vec<Event>,
     cursor: Cursor<'a>,
@@ -147,6 +153,7 @@ pub(crate) fn push_front<'a>(
 /// piece begins.
 ///
 /// An `Err` says that memory ran out.
+#[inline(always)]
 pub(crate) fn push_back<'a>(
     events: &mut Vec<Event>,
     cursor: Cursor<'a>,

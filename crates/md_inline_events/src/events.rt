@@ -1,8 +1,9 @@
 // Events at points of a line.
 
-ghost use Rattle.std.specs.Prelude.{◌≡◌, ◌+◌, ◌*◌, ◌^◌, ◌<◌, ◌≤◌, ◌∷◌, ◌++◌, OnOk, [], length};
+ghost use Rattle.std.specs.Prelude.{◌≡◌, ◌+◌, ◌*◌, ◌^◌, ◌<◌, ◌≤◌, ◌∷◌, ◌++◌, true, OnOk, [], length};
 ghost use Rattle.md_events.specs.Events.Inline.{pair_unless_empty};
 ghost use Rattle.md_events.specs.Events.Places.{past_byte, past_text};
+ghost use Rattle.md_inline_events.specs.Room.{is_even};
 
 use md_engine::class::Class;
 use md_engine::event::{Event, Kind, Name, Point};
@@ -51,9 +52,39 @@ pub(crate) fn past_text(text: &[u8], point: Point) -> Point
     at
 }
 
+/// Whether each byte of a line is one column.
+pub(crate) fn is_even(line: &[u8]) -> bool
+    ensures { result ≡ true → is_even line.now ≡ true }
+{
+    Class::Text.span(line) >= line.len()
+}
+
+/// The point after a run of bytes of a line; `even` says that each of them is one column.
+#[inline(always)]
+pub(crate) fn past_run(even: bool, run: &[u8], point: Point) -> Point
+    requires even { even ≡ true → is_even run.now ≡ true }
+    requires some { 0 < length run.now }
+    requires index { point.index + length run.now < 2 ^ 61 }
+    requires column { point.column ≤ 4 * point.index + 5 }
+    ensures value { result ≡ past_text run.now point }
+    ensures index { result.index ≡ point.index + length run.now }
+    ensures column { result.column ≤ 4 * result.index + 5 }
+{
+    if !even {
+        return past_text(run, point);
+    }
+    Point {
+        line: point.line,
+        column: point.column.saturating_sub(1) + 1 + run.len(),
+        index: point.index + run.len(),
+        vs: 0,
+    }
+}
+
 /// Adds an event.
 ///
 /// An `Err` says that memory ran out.
+#[inline(always)]
 pub(crate) fn push_event(
     events: &mut Vec<Event>,
     kind: Kind,
@@ -77,6 +108,7 @@ pub(crate) fn push_event(
 /// Adds the begin and the end of a piece, unless it would be empty.
 ///
 /// An `Err` says that memory ran out.
+#[inline(always)]
 pub(crate) fn push_unless_empty(
     events: &mut Vec<Event>,
     name: Name,

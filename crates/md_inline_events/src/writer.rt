@@ -15,7 +15,7 @@ ghost use Rattle.md_inline_events.specs.Tokens as listed;
 ghost use Rattle.md_inline_events.specs.Woven as woven;
 
 use crate::cursor::{Cursor, push_back, push_front};
-use crate::events::{past_text, push_unless_empty};
+use crate::events::{is_even, past_run, past_text, push_unless_empty};
 use crate::text::{Sides, is_text, next_side};
 use crate::token::Token;
 use md_engine::event::{Event, Name, Point};
@@ -24,6 +24,7 @@ use md_engine::parse_state::ParseState;
 use md_events::inline::{Chunk, PartKind};
 
 /// How many of so many bytes are in a piece with so many bytes left, of which there may be none.
+#[inline(always)]
 fn run_len(left: usize, len: usize) -> usize
     requires { 0 < len }
     ensures some { 0 < result }
@@ -54,6 +55,7 @@ fn push_line<'a>(
     ensures index { IfOk result (λ end. end.1.index ≡ first.index + length line.now) }
     ensures column { IfOk result (λ end. end.1.column ≤ 4 * end.1.index + 5) }
 {
+    let even = is_even(line);
     let mut cursor = cursor;
     let mut from = first;
     let mut at = first;
@@ -61,7 +63,7 @@ fn push_line<'a>(
     while !rest.is_empty() {
         let (entered, begun) = push_front(events, cursor, from, at)?;
         let (run, following) = rest.split_at(run_len(entered.left, rest.len()));
-        let to = past_text(run, at);
+        let to = past_run(even, run, at);
         let (left, next) = push_back(events, entered, run.len(), begun, to)?;
         cursor = left;
         from = next;

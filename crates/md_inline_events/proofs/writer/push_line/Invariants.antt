@@ -1,6 +1,7 @@
-use Rattle.std.proofs.Common.{◌≡◌, ◌+◌, ◌*◌, ◌≤◌, ◌++◌, drop, take, length}
+use Rattle.std.proofs.Common.{◌≡◌, true, ◌+◌, ◌*◌, ◌≤◌, ◌++◌, drop, take, length}
 use Rattle.md_events.specs.Events.Places.{past_text}
 use Rattle.md_inline_events.specs.Marks.{last_name, line_events}
+use Rattle.md_inline_events.specs.Room.{is_even}
 use Rattle.md_inline_events.specs.SidesOf.{cursor_marks}
 use Rattle.md_inline_events.proofs.writer.push_line.Given as goal
 
@@ -16,6 +17,7 @@ invariant-loop-rest l = record {
   point : past_text l.rest l.at ≡ past_text l.line l.fn.first;
   index : l.at.index + length l.rest ≡ l.fn.first.index + length l.line;
   column : l.at.column ≤ 4 * l.at.index + 5;
+  even : l.even ≡ true → is_even l.rest ≡ true;
 }
 
 abbrev pub decreases-loop-rest : goal.decreases-loop-rest
