@@ -137,6 +137,11 @@ ADDRESSES: dict[str, Callable[[int], str]] = {
     "`a.`": parts("a."),
     "`mailto:`": parts("mailto:"),
     "`xmpp:a@b.c/`": parts("xmpp:a@b.c/"),
+    "`_www.`": parts("_www."),
+    "`_www.a.b`": parts("_www.a.b"),
+    "`_www..a`": parts("_www..a"),
+    "`_www.` and two dots": one("", "_www.", ".a"),
+    "`_www.` in a bracket": one("[", "_www.a", ".b"),
 }
 
 LINES: dict[str, Callable[[int], str]] = {

@@ -6,10 +6,15 @@ use Rattle.std.specs.Char.{is_ascii_alphabetic}
 use Rattle.std.specs.List.{starts_with}
 use Rattle.std.proofs.Math.Seq.{drop-cons}
 use Rattle.std.proofs.lemmas.Bool.Decides.{nat_tests}
+use Rattle.std.proofs.lemmas.List.{drop-drop}
+use Rattle.md_meaning.specs.Ascii.{dot}
+use Rattle.md_meaning.specs.Lines.{begins_with}
 use Rattle.md_meaning.specs.Rest.{run_len}
 use Rattle.md_inlines.specs.Code.{before_run, raw_at}
 use Rattle.md_meaning.specs.Bytes.{begins}
-use Rattle.md_meaning.specs.Html.{after_next}
+use Rattle.md_meaning.specs.Html.{after_next, starts_in_any_case}
+use Rattle.md_inlines.specs.Literal.{address as literal_of, domain_len, literal_at, may_follow}
+use Rattle.md_inlines.specs.declared.LiteralKind.TheVariants as n
 use Rattle.md_inlines.specs.RawHtml.{after_comment, after_html, after_marked, after_word}
 use Rattle.markdown_inlines.specs.Ends.{AreGone}
 use Rattle.markdown_inlines.specs.declared.ends.Gone.{Gone}
@@ -201,3 +206,31 @@ html-instruction b text rest is e h =
     let first : (b == 63) ≡ true = marks b 63 e in
     let here : after_html (b ∷ rest) ≡ after_word (codes "?>") rest = rw (other, first) refl in
     ap after_html is ∙ here ∙ h
+
+-- An address that begins with `www.` needs a domain after it.
+pub no-www : (before text : List ℕ) → starts_in_any_case text (codes "www.") ≡ true →
+    domain_len (drop 4 text) ≡ None → literal_at before text ≡ None
+unfolding literal_at
+no-www before text is none = go (may_follow before)
+  where
+    go : (m : Bool) →
+        cond (not m) None
+        (cond (starts_in_any_case text (codes "www.")) (literal_of n.Www 4 text)
+        (cond (starts_in_any_case text (codes "http://")) (literal_of n.Protocol 7 text)
+        (cond (starts_in_any_case text (codes "https://")) (literal_of n.Protocol 8 text) None))) ≡
+        None
+    go false = refl
+    go true = rw (is, none) refl
+
+-- what is after three bytes and a dot, in a rest of a text
+pub no-address-there : (before whole rest tail : List ℕ) (at : ℕ) → rest ≡ drop at whole → tail ≡ drop 3 rest →
+    begins_with dot tail ≡ true → starts_in_any_case rest (codes "www.") ≡ true →
+    (begins_with dot (drop (at + 3) whole) ≡ true → domain_len (drop (at + 4) whole) ≡ None) →
+    literal_at before rest ≡ None
+no-address-there before whole rest tail at r t dots is none =
+    no-www before rest is
+    (ap (λ (l : List ℕ). domain_len (drop 4 l)) r ∙ ap domain_len (drop-drop 4 at whole)
+    ∙ none
+    (ap (begins_with dot)
+    (sym (drop-drop 3 at whole) ∙ ap (drop 3) (sym r) ∙ sym t)
+    ∙ dots))

@@ -4,6 +4,7 @@ ghost use Rattle.std.specs.Prelude.{◌≡◌, ◌+◌, ◌++◌, true, None, If
 ghost use Rattle.md_inlines.specs.Atoms as inlines;
 ghost use Rattle.md_inlines.specs.Targets as targets;
 ghost use Rattle.md_inlines.specs.Code as code;
+ghost use Rattle.md_inlines.specs.Literal as literal;
 ghost use Rattle.md_inlines.specs.RawHtml as html;
 ghost use Rattle.markdown_inlines.specs.Ends.{IsAbsent};
 ghost use Rattle.markdown_inlines.specs.Found as spec;
@@ -175,10 +176,27 @@ fn trailing_at(hard: bool, text: &[u8]) -> Option<Atom>
     }
 }
 
-fn address_at(before: &[u8], text: &[u8]) -> Option<Atom>
-    ensures { found result ≡ spec.address_at before.now text.now }
+/// The address that comes first in a text, after another, which may be known to be absent.
+fn literal_unless(absent: bool, before: &[u8], text: &[u8]) -> Option<Literal>
+    requires { absent ≡ true → literal.literal_at before.now text.now ≡ None }
+    ensures { result ≡ literal.literal_at before.now text.now }
 {
-    match literal_at(before, text) {
+    if absent {
+        None
+    } else {
+        literal_at(before, text)
+    }
+}
+
+/// `on` says whether addresses are read there, and `absent` that it is known that none begins.
+fn address_at(on: bool, absent: bool, before: &[u8], text: &[u8]) -> Option<Atom>
+    requires { absent ≡ true → literal.literal_at before.now text.now ≡ None }
+    ensures { found result ≡ inlines.when on (spec.address_at before.now text.now) }
+{
+    if !on {
+        return None;
+    }
+    match literal_unless(absent, before, text) {
         Some(literal) => Some(Atom::Literal(literal)),
         None => None,
     }
@@ -228,7 +246,12 @@ pub(crate) fn atom_unless(
     if let Some(atom) = trailing_at(on.hard_break_trailing, text) {
         return Some(atom);
     }
-    when(on.gfm_autolink_literal && outside, address_at(before, text))
+    address_at(
+        on.gfm_autolink_literal && outside,
+        absent.address,
+        before,
+        text,
+    )
 }
 
 /// Whether an escape or a character reference may be at the front of a text.

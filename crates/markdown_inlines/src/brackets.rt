@@ -11,7 +11,7 @@ ghost use Rattle.md_inlines.specs.Content as content;
 ghost use Rattle.md_inlines.specs.Emphasis as emphasis;
 ghost use Rattle.md_inlines.specs.Emphasis.{Item};
 ghost use Rattle.markdown_inlines.specs.Closed as closed;
-ghost use Rattle.markdown_inlines.specs.Ends.{AreEnds, IsAbsent};
+ghost use Rattle.markdown_inlines.specs.Ends.{AreDomainless, AreEnds, IsAbsent};
 ghost use Rattle.markdown_inlines.specs.Filled.{Filled, Placed, Shows};
 ghost use Rattle.markdown_inlines.specs.Found.{found};
 ghost use Rattle.markdown_inlines.specs.Opened.{bracket_room};
@@ -22,7 +22,7 @@ ghost use Rattle.markdown_inlines.specs.Spans.{holes, span_of, write};
 
 use crate::atom::{Atom, atom_unless, push_atom};
 use crate::attention::{PlacedRun, match_runs, push_run};
-use crate::ends::{Absent, Ends, absent_at, ends_of};
+use crate::ends::{Absent, Domainless, Ends, absent_at, domainless_at, ends_of};
 use crate::labels::is_call;
 use crate::plain::text_len;
 use crate::slices::{after, front};
@@ -536,6 +536,7 @@ fn step(
     alloc: Global,
     source: Source<'_, '_>,
     ends: &Ends,
+    places: Domainless,
     byte: u8,
     following: &[u8],
     reading: &mut Reading,
@@ -543,12 +544,13 @@ fn step(
     requires reads { Reads source reading.old }
     requires is { drop reading.old.at source.text.now ≡ byte ∷ following.now }
     requires ends { AreEnds source.text.now ends.now }
+    requires places { AreDomainless source.text.now places }
     ensures { OnOk result (Goes source.entry reading.old reading.new) }
 {
     let inside = !reading.brackets.is_empty();
     let before = front(source.text, reading.at);
     let rest = after(source.text, reading.at);
-    let absent = absent_at(ends, source.text, reading.at, rest);
+    let absent = absent_at(ends, places, source.text, reading.at, rest);
     match front_at(source.options, inside, absent, before, byte, rest) {
         Front::Found(found) => add_atom(reading, found),
         Front::Marks(run) => add_run(reading, run),
@@ -578,6 +580,27 @@ fn pass_text(source: Source<'_, '_>, reading: &mut Reading) -> Result<(), Messag
     Ok(())
 }
 
+/// The places without a domain that are known at this byte, after those that are known before it. None are looked for
+/// where no address is read.
+///
+/// An `Err` says that the text is longer than one in memory can be.
+fn places_at(
+    source: Source<'_, '_>,
+    known: Domainless,
+    byte: u8,
+    reading: &Reading,
+) -> Result<Domainless, Message>
+    requires { AreDomainless source.text.now known }
+    ensures { IfOk result (λ places. AreDomainless source.entry.text.now places) }
+{
+    if !source.options.constructs.gfm_autolink_literal || !reading.brackets.is_empty() {
+        return Ok(known);
+    }
+    let before = front(source.text, reading.at);
+    let rest = after(source.text, reading.at);
+    domainless_at(known, source.text, reading.at, byte, before, rest)
+}
+
 /// Matches the runs that are left where a text ends.
 fn match_last(source: Source<'_, '_>, reading: &mut Reading)
     requires reads { Reads source reading.old }
@@ -605,9 +628,11 @@ pub(crate) fn read(alloc: Global, source: Source<'_, '_>) -> Result<Vec<Span>, M
         links: false,
         at: source.start,
     };
+    let mut places = Domainless::NOWHERE;
     pass_text(source, &mut reading)?;
     while let Some((byte, following)) = after(source.text, reading.at).split_first() {
-        step(alloc, source, &ends, *byte, following, &mut reading)?;
+        places = places_at(source, places, *byte, &reading)?;
+        step(alloc, source, &ends, places, *byte, following, &mut reading)?;
         pass_text(source, &mut reading)?;
     }
     match_last(source, &mut reading);

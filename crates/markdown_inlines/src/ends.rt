@@ -1,16 +1,20 @@
 // Searches that fail: from which place of a text on a run of backticks or of dollars, or the end of raw HTML, is known
-// to be absent. So no text is searched for them again and again.
+// to be absent, and where no domain begins. So no text is searched for them again and again.
 //
-// Each is listed before a text is read, by one pass from its end, where the text has a byte that begins such a search.
+// All but domains are listed before a text is read, by one pass from its end, where the text has a byte that begins such
+// a search.
 
-ghost use Rattle.std.specs.Prelude.{◌≡◌, ℕ, ◌≤◌, ◌+◌, true, IfOk, OnOk, None, codes, drop, get_or, nat_le};
+ghost use Rattle.std.specs.Prelude.{◌≡◌, ℕ, ◌≤◌, ◌+◌, true, IfOk, List, OnOk, None, codes, drop, get_or, nat_le};
 ghost use Rattle.md_meaning.specs.Html as h;
 ghost use Rattle.md_inlines.specs.Code as inlines;
+ghost use Rattle.md_inlines.specs.Literal as literal;
 ghost use Rattle.md_inlines.specs.RawHtml as html;
 ghost use Rattle.markdown_inlines.specs.Ends as spec;
 
 use crate::slices::after;
+use crate::span::past;
 use md_engine::message::Message;
+use md_inlines::address::{no_domain_len, starts_in_any_case};
 use md_scan::ahead::begins_with;
 use md_scan::bytes::run_len;
 use md_scan::memory::push;
@@ -137,6 +141,8 @@ pub(crate) struct Absent {
     pub(crate) math: bool,
     /// The end of raw HTML.
     pub(crate) html: bool,
+    /// The address that begins with `www.`.
+    pub(crate) address: bool,
 }
 
 impl Absent {
@@ -145,6 +151,7 @@ impl Absent {
         code: false,
         math: false,
         html: false,
+        address: false,
     };
 }
 
@@ -229,9 +236,85 @@ fn is_endless(gone: Gone, text: &[u8]) -> bool
     false
 }
 
+/// Places of a text, from one up to another, at which no domain is after a `www.`.
+#[derive(Clone, Copy)]
+pub(crate) struct Domainless {
+    from: usize,
+    to: usize,
+}
+
+impl Domainless {
+    /// None.
+    pub(crate) const NOWHERE: Domainless = Domainless { from: 0, to: 0 };
+}
+
+/// The places of a text from one on, where this rest begins with `www.`.
+///
+/// An `Err` says that the text is longer than one in memory can be.
+fn domainless_from(whole: &[u8], at: usize, rest: &[u8]) -> Result<Domainless, Message>
+    requires { rest.now ≡ drop at whole.now }
+    ensures { IfOk result (λ places. spec.AreDomainless whole.now places) }
+{
+    let to = past(at, no_domain_len(after(rest, 3)))?;
+    Ok(Domainless { from: at, to })
+}
+
+/// Whether the last byte of a text is a `_`: then what follows may be in a domain, and an address may begin there.
+fn ends_with_underscore(text: &[u8]) -> bool {
+    matches!(text, [.., b'_'])
+}
+
+/// The places that are known where this rest of a text begins, with this byte. They are looked for where an address may
+/// begin in the domain of another, and beyond those that are known.
+///
+/// An `Err` says that the text is longer than one in memory can be.
+pub(crate) fn domainless_at(
+    known: Domainless,
+    whole: &[u8],
+    at: usize,
+    byte: u8,
+    before: &[u8],
+    rest: &[u8],
+) -> Result<Domainless, Message>
+    requires known { spec.AreDomainless whole.now known }
+    requires is { rest.now ≡ drop at whole.now }
+    ensures { IfOk result (λ places. spec.AreDomainless whole.now places) }
+{
+    if byte != b'w' && byte != b'W' {
+        return Ok(known);
+    }
+    if at < known.to || !ends_with_underscore(before) || !starts_in_any_case(rest, b"www.") {
+        return Ok(known);
+    }
+    domainless_from(whole, at, rest)
+}
+
+/// Whether an address that begins with `www.` is known to be absent at a place of a text, where this rest begins.
+fn has_no_domain(places: Domainless, whole: &[u8], at: usize, rest: &[u8]) -> bool
+    requires places { spec.AreDomainless whole.now places }
+    requires is { rest.now ≡ drop at whole.now }
+    ensures { result ≡ true → (before : List ℕ) → literal.literal_at before rest.now ≡ None }
+{
+    if at < places.from || places.to <= at {
+        return false;
+    }
+    if begins_with(b'.', after(rest, 3)) {
+        starts_in_any_case(rest, b"www.")
+    } else {
+        false
+    }
+}
+
 /// Which searches are known to fail at a place of a text, where this rest begins.
-pub(crate) fn absent_at(ends: &Ends, whole: &[u8], at: usize, rest: &[u8]) -> Absent
+pub(crate) fn absent_at(
+    ends: &Ends,
+    places: Domainless,
+    whole: &[u8],
+    at: usize,
+    rest: &[u8],
+) -> Absent
     requires ends { spec.AreEnds whole.now ends.now }
+    requires places { spec.AreDomainless whole.now places }
     requires is { rest.now ≡ drop at whole.now }
     ensures { spec.IsAbsent result rest.now }
 {
@@ -246,6 +329,10 @@ pub(crate) fn absent_at(ends: &Ends, whole: &[u8], at: usize, rest: &[u8]) -> Ab
         },
         [b'<', inside @ ..] => Absent {
             html: is_endless(gone_from(ends, whole, at, inside), inside),
+            ..Absent::NOTHING
+        },
+        [b'W' | b'w', ..] => Absent {
+            address: has_no_domain(places, whole, at, rest),
             ..Absent::NOTHING
         },
         _ => Absent::NOTHING,

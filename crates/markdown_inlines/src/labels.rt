@@ -38,6 +38,9 @@ fn split_lines<'a>(alloc: Global, text: &'a [u8]) -> Result<Vec<&'a [u8]>, Messa
 fn form_of(alloc: Global, label: &[u8]) -> Result<String, Message>
     ensures { IfOk result (λ form. string_bytes form ≡ normal_form (target.lines label.now)) }
 {
+    if !label.contains(&b'\n') {
+        return form_of_bytes(alloc, &[label]);
+    }
     let lines = split_lines(alloc, label)?;
     form_of_bytes(alloc, &lines)
 }

@@ -20,6 +20,7 @@ mod BrokenRows
 mod RulesRows
 pub mod CharacterLemmas
 pub mod CodeLemmas
+mod DomainLemmas
 pub mod HtmlLemmas
 pub mod LabelLemmas
 pub mod LiteralLemmas

@@ -1,6 +1,6 @@
 // Addresses without angle brackets (GFM 6.9): `www.`, `http://` and `https://`, with a domain and a path.
-ghost use Rattle.std.specs.Prelude.{◌≡◌, ◌≤◌, ◌+◌, ◌==◌, true, count_by, length, nat_le, option_copied, reverse};
-ghost use Rattle.std.specs.Prelude.{IfSome};
+ghost use Rattle.std.specs.Prelude.{◌≡◌, ◌<◌, ◌≤◌, ◌+◌, ◌-◌, ◌==◌, true, count_by, drop, length, nat_le};
+ghost use Rattle.std.specs.Prelude.{option_copied, reverse, IfSome};
 ghost use Rattle.std.specs.List.{list_any, slice_split};
 ghost use Rattle.md_inlines.specs.Literal as literal;
 ghost use Rattle.md_inlines.specs.Addresses as addresses;
@@ -31,7 +31,7 @@ pub(crate) fn may_follow(before: &[u8]) -> bool
 }
 
 /// Whether this word comes first, in any ASCII case.
-pub(crate) fn starts_in_any_case(text: &[u8], word: &[u8]) -> bool
+pub fn starts_in_any_case(text: &[u8], word: &[u8]) -> bool
     ensures value { result ≡ h.starts_in_any_case text.now word.now }
     ensures bound { result ≡ true → length word.now ≤ length text.now }
 {
@@ -152,6 +152,46 @@ fn domain_len(text: &[u8]) -> Option<usize>
         Some(domain.len())
     } else {
         None
+    }
+}
+
+/// Whether an empty segment begins after the first byte.
+fn begins_with_dots(text: &[u8]) -> bool
+    ensures { result ≡ addresses.begins_with_dots text.now }
+{
+    match text {
+        [first, second, ..] => *first == b'.' && *second == b'.',
+        _ => false,
+    }
+}
+
+/// How many bytes are before the last empty segment of a domain, or 0.
+fn before_last_empty(text: &[u8]) -> usize
+    ensures is { 0 < result → addresses.begins_with_dots (drop (result - 1) text.now) ≡ true }
+    ensures bound { result ≤ length text.now }
+{
+    let mut at = text.len();
+    while at > 0 {
+        if begins_with_dots(text.split_at(at - 1).1) {
+            return at;
+        }
+        at -= 1;
+    }
+    0
+}
+
+/// After how many places at the front no domain begins, where a dot is there. A `_` in one of its last two segments makes
+/// a domain none, and each that begins after a dot of it; an empty segment makes those none that begin before it.
+pub fn no_domain_len(text: &[u8]) -> usize
+    ensures is { addresses.HasNoDomain text.now result }
+    ensures bound { result ≤ length text.now }
+{
+    let front = domain_front(text);
+    let domain = without_last_dots(front);
+    if has_last_underscore(domain) {
+        front.len()
+    } else {
+        before_last_empty(domain)
     }
 }
 

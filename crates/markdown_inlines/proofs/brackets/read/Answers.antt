@@ -7,13 +7,19 @@ pass_text-requires c =
     begins c.args.source _ c.new.ensures.items c.new-2.ensures.items c.new-3.ensures.items refl refl
 
 pub loop-byte-init : goal.loop-byte-init
-loop-byte-init c = c.in_ok-pass_text.ensures.reads
+loop-byte-init c = record {
+  reads = c.in_ok-pass_text.ensures.reads;
+  places = λ at from to dots. absurd (omega (arith, to));
+}
 
 pub pass_text-requires-in-Some : goal.pass_text-requires-in-Some
 pass_text-requires-in-Some c = c.in_ok-step.ensures.reads
 
 pub loop-byte-preserved : goal.loop-byte-preserved
-loop-byte-preserved c = c.in_ok-pass_text-2.ensures.reads
+loop-byte-preserved c = record {
+  reads = c.in_ok-pass_text-2.ensures.reads;
+  places = c.in_ok-places.ensures;
+}
 
 pub loop-byte-smaller : goal.loop-byte-smaller
 loop-byte-smaller c =
