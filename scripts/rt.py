@@ -8,8 +8,9 @@ for a hint where it ends first: `scripts/rt.py try` starts none. No proof depend
 runs as it is.
 
 A must-fail edit may name functions by lines `function: PATH`. Then it is refused where the proof of one of them fails with
-the edit, and those of all are found without it: `rt` proves the whole crate once more for the first edit. An edit that is
-not refused so is tried over the whole crate.
+the edit, and those of all are found without it: `rt` proves the whole crate once more for the first edit. Edits of the
+bodies of single functions are tried at once, each of another function: no proof of a function sees the body of another.
+An edit that is not refused so is tried by itself, and then over the whole crate.
 """
 import importlib.machinery
 import importlib.util
@@ -62,6 +63,35 @@ def functions_of(edit):
         return re.findall(r"^function: (\S+)$", file.read(), re.M)
 
 
+def body_of(edit, text, old):
+    """The function that a must-fail edit names, where it names one and this text is in its body; None where it is not."""
+    names = functions_of(edit)
+    heads = [*re.finditer(r"^( *)(?:pub(?:\([a-z]+\))? )?(?:const )?fn (\w+)", text[: text.find(old)], re.M)]
+    if len(names) != 1 or not heads or heads[-1][2] != names[0].split("::")[-1]:
+        return None
+    before = text[heads[-1].start() : text.find(old)]
+    return names[0] if re.search(rf"^(?:{heads[-1][1]}|{heads[-1][1]}fn .*)\{{$", before, re.M) else None
+
+
+def bodies_together(rt, crate, edits):
+    """Texts with the edits of several bodies, each of another function, and for each edit its function."""
+    texts, named = {}, {}
+    for edit in edits:
+        with open(edit, encoding="utf-8") as file:
+            said = file.read()
+        pairs = re.findall(r"^file: (src/\S+)\nold: (.*)\nnew: ?(.*)\n?\Z", re.sub(r"^function: .*\n", "", said, flags=re.M), re.M)
+        if len(pairs) != 1 or rt.read_edit(edit, crate.folder)[1]:
+            continue
+        path, old, new = pairs[0]
+        if path not in texts:
+            with open(f"{crate.folder}/{path}", encoding="utf-8") as file:
+                texts[path] = file.read()
+        name = body_of(edit, texts[path], old)
+        if name and name not in named.values() and texts[path].count(old) == 1:
+            texts[path], named[edit] = texts[path].replace(old, new), name
+    return texts, named
+
+
 def try_edits_by_function(rt):
     """Has an edit be tried over the functions that it names, before it is tried over the whole crate."""
     checked = rt.checked
@@ -74,12 +104,33 @@ def try_edits_by_function(rt):
             ran.stdout += "\nlogic=not-proved"
         return ran
 
+    def refused_together(crate, edits, flags, kept):
+        """The edits that are refused where they are tried at once, each with what is said of it. One whose function calls
+        that of another is tried again without the other."""
+        texts, named = bodies_together(rt, crate, edits)
+        if len(named) < 2:
+            return {}
+        whole = [*flags, *(word for name in named.values() for word in ("--only", name))]
+        ran = checked(crate, texts, whole, kept)
+        if ran.returncode != 1 or any(rt.unread(line, texts) for line in ran.stdout.split("\n")):
+            return {}
+        failed = re.findall(r"^fn (\S+): (?:not proved|no proof)(?!.*(?:it calls|it passes|a call of))", ran.stdout, re.M)
+        said = "refused, as it must be, beside others: the proof of {} fails"
+        refused = {
+            edit: (True, f"must-fail {crate.name}/{os.path.basename(edit)}: {said.format(name)}")
+            for edit, name in named.items()
+            if f"{crate.name}::{name}" in failed
+        }
+        left = [edit for edit in edits if edit not in refused] if refused else []
+        return {**refused, **(refused_together(crate, left, flags, kept) if left else {})}
+
     def must_fail_all(crate, edits, flags):
         flags_of = {edit: [*flags, *(word for name in functions_of(edit) for word in ("--only", name))] for edit in edits}
         named = [edit for edit in edits if flags_of[edit] != flags]
         every = dict.fromkeys(name for edit in named for name in functions_of(edit))
         with tempfile.TemporaryDirectory(prefix="rt-edits-") as kept:
-            tried = {edit: rt.must_fail(crate, edit, flags_of[edit], kept) for edit in named}
+            tried = refused_together(crate, named, flags, kept)
+            tried.update({edit: rt.must_fail(crate, edit, flags_of[edit], kept) for edit in named if edit not in tried})
             whole = [*flags, *(word for name in every for word in ("--only", name))]
             if named and checked(crate, {}, whole, kept).returncode:
                 tried = {}
@@ -107,7 +158,8 @@ def main():
         take_sums_once(crate)
     words = ["crate", "texts", "flags", "kept"], ["crate", "edits", "flags"]
     known = [getattr(rt, name, None) for name in ("checked", "must_fail_all")]
-    if all(known) and tuple([*inspect.signature(it).parameters] for it in known) == words:
+    others = all(callable(getattr(rt, name, None)) for name in ("must_fail", "read_edit", "unread"))
+    if all(known) and others and tuple([*inspect.signature(it).parameters] for it in known) == words:
         try_edits_by_function(rt)
     if sys.argv[1:2] == ["try"] and hasattr(library, "RATTLE"):
         library.RATTLE = shutil.which("true")
