@@ -8,6 +8,7 @@ printed:
     growth    how many times the instructions twice the text takes
     times     seconds from the start of the process to its end, each the best of some runs
     beside    processor time and memory of `blocks` and of the block layer of cmark on 10 MB of text, run in turn
+    inlines   instructions by byte of text with inline content: its events (`test_cost`), and HTML (`hoxalgurre html`)
 
 Instructions are counted by valgrind (callgrind), so they are the same on each run of the same program; where it is
 missing, the times are printed alone. Memory is the most that is resident.
@@ -16,7 +17,8 @@ missing, the times are printed alone. Memory is the most that is resident.
 the archive of libcmark are installed (`libcmark-dev`). The text is mixed text again and again, or that of `--text`.
 
 `cost` counts cmark, cmark-gfm and md2html (md4c) beside it where they are installed: whole programs, which read inlines
-too and print them. `--other COMMAND` counts another program, such as a block layer of one of these that prints an outline.
+too and print them; `inlines` counts the HTML of these. `--other COMMAND` counts another program, such as a block layer of
+one of these that prints an outline.
 """
 
 import argparse
@@ -280,6 +282,19 @@ REFERENCES: dict[str, Callable[[int], str]] = {
     ),
 }
 
+# Texts with inline content: how each begins, and a part that follows again and again.
+INLINES: dict[str, tuple[str, str]] = {
+    "mixed, as real Markdown": ("", MIXED),
+    "paragraphs of long lines": ("", PARTS["paragraphs of long lines"]),
+    "emphasis": ("", "Some *emphasis*, some **strong emphasis** and some ***of both***, in a line of text\n"),
+    "links": ("", "A [link to a page](https://example.org/page \"its title\") and ![an image](image.png)\n"),
+    "references": (
+        "[page]: https://example.org/page \"its title\"\n[other]: <image.png>\n\n",
+        "A [reference to a page][page], the [page][] by its label and the [other] in a line\n",
+    ),
+    "code": ("", "Some `code` and ``some ` of it`` in a line of text that has `more of it` after that\n"),
+}
+
 # What is timed: a part, and how often it is repeated.
 TIMED: list[tuple[str, str, list[int]]] = [
     ("MB of paragraphs", PARTS["paragraphs of long lines"] * 8 + "* * *\n\n", [1, 2, 4, 8]),
@@ -372,8 +387,15 @@ def filled(part: str, size: int) -> str:
     return part * max(1, size // len(part))
 
 
-# The program with an inline layer.
+# The program with an inline layer that looks references up; one that makes events of whole Markdown, where a text begins
+# so; and one that makes HTML.
 LAYER = ROOT / "crates/examples_references/out/examples_references"
+EVENTS = ROOT / "crates/test_cost/out/test_cost"
+WITH_INLINES = "\n\t\n"
+HTML = ROOT / "crates/hoxalgurre/out/hoxalgurre"
+
+# Programs whose HTML is counted beside it.
+OTHER_HTML = ["cmark", "cmark-gfm --extension table", "md2html --ftables"]
 
 
 class Ran(NamedTuple):
@@ -467,6 +489,20 @@ def print_cost(program: Program, size: int, beside: dict[str, tuple[Program, lis
         row(name, cost(program, given), f"{memory:.1f}", *(cost(*other) for other in beside.values()))
 
 
+def print_inlines(size: int, beside: dict[str, tuple[Program, list[str]]]) -> None:
+    """What a byte of text with inline content costs: of a text less its first half."""
+    head("Text", "Events", "HTML", *beside)
+    counted = [(Program(EVENTS), WITH_INLINES, []), (Program(HTML), "", ["html"])]
+    counted += [(program, "", given) for program, given in beside.values()]
+    for name, (first, part) in INLINES.items():
+        half, whole = filled(part, size // 2), filled(part, size // 2) * 2
+        costs = [
+            program.instructions(before + first + whole, given) - program.instructions(before + first + half, given)
+            for program, before, given in counted
+        ]
+        row(name, *(f"{cost / (len(whole) - len(half)):.1f}" for cost in costs))
+
+
 def print_growth(program: Program, size: int) -> None:
     """How the instructions grow with the text, less those of an empty one.
 
@@ -526,7 +562,7 @@ def print_beside(program: Program, text: str, runs: int) -> None:
 
 def main() -> None:
     parser = argparse.ArgumentParser(description=__doc__, formatter_class=argparse.RawDescriptionHelpFormatter)
-    parser.add_argument("tables", nargs="*", metavar="TABLE", help="cost, growth, times, beside; the first three if none is named")
+    parser.add_argument("tables", nargs="*", metavar="TABLE", help="cost, growth, times, beside, inlines; the first three if none is named")
     parser.add_argument("--program", type=Path, default=ROOT / "crates/blocks/out/blocks", help="what is measured")
     parser.add_argument("--size", type=int, default=240_000, help="bytes of a text that is counted (240000)")
     parser.add_argument("--other", action="append", default=[], metavar="COMMAND", help="counted beside it by `cost`")
@@ -534,17 +570,19 @@ def main() -> None:
     parser.add_argument("--text", type=Path, metavar="FILE", help="the text that `beside` repeats")
     asked = parser.parse_args()
     tables = asked.tables or ["cost", "growth", "times"]
-    if unknown := set(tables) - {"cost", "growth", "times", "beside"}:
+    if unknown := set(tables) - {"cost", "growth", "times", "beside", "inlines"}:
         parser.error(f"no table: {', '.join(sorted(unknown))}")
-    if not shutil.which("valgrind") and set(tables) & {"cost", "growth"}:
+    if not shutil.which("valgrind") and set(tables) & {"cost", "growth", "inlines"}:
         print("valgrind is not there, so no instructions are counted: times alone", file=sys.stderr)
-        tables = [table for table in tables if table not in ("cost", "growth")] or ["times"]
+        tables = [table for table in tables if table not in ("cost", "growth", "inlines")] or ["times"]
     program = Program(asked.program)
     for table in tables:
         if table == "cost":
             print_cost(program, asked.size, others(OTHERS + asked.other))
         elif table == "growth":
             print_growth(program, asked.size)
+        elif table == "inlines":
+            print_inlines(asked.size, others(OTHER_HTML))
         elif table == "beside":
             print_beside(program, asked.text.read_text() if asked.text else MIXED, asked.runs)
         else:
