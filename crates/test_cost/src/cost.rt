@@ -53,6 +53,20 @@ fn options_of(text: &str, options: ParseOptions) -> ParseOptions
     }
 }
 
+/// How many lines the outline of a text has. Where the layer `Inlines` reads it none is made, so that what a run takes
+/// is that of its events.
+fn line_count(
+    alloc: Global,
+    text: &str,
+    events: &[Event],
+    state: &ParseState,
+) -> Result<usize, Message> {
+    if text.starts_with(INLINES) {
+        return Ok(0);
+    }
+    Ok(outline(alloc, events, state)?.len())
+}
+
 /// Prints how many events a text has, for how many their list has room, how many bytes one takes, and how many lines
 /// the outline has.
 pub struct Cost;
@@ -63,7 +77,7 @@ impl Printing for Cost {
     fn output(alloc: Global, text: &str, options: ParseOptions) -> Result<String, Message> {
         let options = Blocks::built(options_of(text, options));
         let (events, state) = read(alloc, text, &options)?;
-        let lines = outline(alloc, &events, &state)?;
+        let lines = line_count(alloc, text, &events, &state)?;
         let mut numbers = String::new(alloc);
         write!(
             numbers,
@@ -71,7 +85,7 @@ impl Printing for Cost {
             events.len(),
             events.capacity(),
             size_of::<Event>(),
-            lines.len()
+            lines
         )?;
         Ok(numbers)
     }
