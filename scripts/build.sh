@@ -52,7 +52,7 @@ proved() {
         tar -C crates --exclude=out --exclude=must-fail -cf - "$crate" | tar -C "$work/crates" -xf -
         grep -E "^$crate( |:)" crates.txt >>"$work/crates.txt"
     done
-    (cd "$work" && "$OLDPWD/scripts/rt.py" ci) >"$work/said" 2>&1 || {
+    (cd "$work" && RT_JOBS=${RT_JOBS:-$(nproc)} "$OLDPWD/scripts/rt.py" ci) >"$work/said" 2>&1 || {
         tail -n 30 "$work/said"
         exit 1
     }

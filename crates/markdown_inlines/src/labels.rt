@@ -75,6 +75,9 @@ fn is_footnote(alloc: Global, labels: &Labels<'_>, label: &[u8]) -> Result<bool,
 fn is_short(text: &[u8]) -> bool
     ensures { result ≡ nat_le (length text.now - count_by (λ b. b == 10) text.now) 999 }
 {
+    if text.len() <= 999 {
+        return true;
+    }
     let mut left: usize = 999;
     let mut rest = text;
     while let Some((byte, following)) = rest.split_first() {

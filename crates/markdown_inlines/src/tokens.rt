@@ -107,6 +107,7 @@ fn is_piece_name(name: Name) -> bool
 /// Adds the text between two places, if a byte is between them.
 ///
 /// An `Err` says that memory ran out.
+#[inline(always)]
 fn push_text(tokens: &mut Vec<Token>, at: usize, to: usize) -> Result<(), Message>
     ensures { OnOk result (tokens.new.items ≡ tokens.old.items ++ text at to) }
 {
@@ -117,6 +118,7 @@ fn push_text(tokens: &mut Vec<Token>, at: usize, to: usize) -> Result<(), Messag
 }
 
 /// Takes the innermost part that is open, if it ends at a place or before it.
+#[inline(always)]
 fn pop_ended(parts: &mut Vec<Span>, to: usize) -> Option<Span>
     ensures some { IfSome result (λ part. (part.end ≤ to) × (parts.old.items ≡ parts.new.items ++ part ∷ [])) }
     ensures none { IfNone result ((at : ℕ) → ends (reverse parts.old.items) at to ≡ text at to) }
@@ -134,6 +136,7 @@ fn pop_ended(parts: &mut Vec<Span>, to: usize) -> Option<Span>
 /// Adds the ends of the parts that end between two places, and the text before and after each.
 ///
 /// An `Err` says that memory ran out.
+#[inline(always)]
 fn push_ends(
     tokens: &mut Vec<Token>,
     parts: &mut Vec<Span>,
@@ -155,6 +158,7 @@ fn push_ends(
 /// Adds what begins at a span: a piece, or a part, which is open then. Returns the place after it.
 ///
 /// An `Err` says that memory ran out.
+#[inline(always)]
 fn push_span(tokens: &mut Vec<Token>, parts: &mut Vec<Span>, span: Span) -> Result<usize, Message>
     requires { span.start < span.end }
     ensures tokens { OnOk result (tokens.new.items ≡ tokens.old.items ++ begun span ∷ []) }

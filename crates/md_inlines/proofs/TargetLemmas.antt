@@ -1,10 +1,11 @@
 -- Destinations and titles, one byte at a time.
 use Rattle.std.proofs.Common.{◌≡◌, ℕ, suc, ◌+◌, ◌-◌, ◌≤◌, Bool, true, false, cond, ◌&&◌, List, [], ◌∷◌, length}
 use Rattle.std.proofs.Common.{Option, Some, None, refl, ap, sym, ◌∙◌, arith}
-use Rattle.std.specs.Prelude.{◌==◌, option_map}
+use Rattle.std.specs.Prelude.{◌==◌, nat_lt, option_map}
 use Rattle.std.proofs.lemmas.Bool.Decides.{nat_tests}
 use Rattle.md_meaning.specs.Enclosed.{Broken, Closed, Enclosed, Open, enclosed, with_byte}
-use Rattle.md_inlines.specs.Target.{closed, depth_after, ends_raw, is_escaped_after, is_too_deep, raw_len}
+use Rattle.md_inlines.specs.Target.{closed, depth_after, ends_raw, is_escaped_after, is_plain_raw, is_too_deep}
+use Rattle.md_inlines.specs.Target.{raw_len}
 use Rattle.md_inlines.proofs.CodeLemmas.{further, further-further, further-suc}
 
 -- a text between marks is shorter than what it was cut from
@@ -102,6 +103,57 @@ module _ (found : Option ℕ) (n depth : ℕ) (escaped : Bool) (rest : List ℕ)
       ∙ ap (λ r. further n (raw_len depth escaped r)) (sym is) ∙ before
 
 -- no more than 32 parentheses are open
+-- A byte that opens and closes nothing.
+record PlainRaw (depth : ℕ) (escaped : Bool) (b : ℕ) : Type 0 where
+  ends : ends_raw depth escaped b ≡ false
+  deep : is_too_deep depth escaped b ≡ false
+  same : depth_after depth escaped b ≡ depth
+  bare : is_escaped_after escaped b ≡ false
+
+plain-raw : (depth : ℕ) (escaped : Bool) (b : ℕ) → is_plain_raw b ≡ true → PlainRaw depth escaped b
+plain-raw depth escaped b h = go escaped
+  where
+    zero-not : (b == 0) ≡ false
+    zero-not = grind (arith, nat_tests)
+
+    more : nat_lt 32 b ≡ true
+    more = grind (arith, nat_tests)
+
+    no127 : (b == 127) ≡ false
+    no127 = grind (arith, nat_tests)
+
+    no40 : (b == 40) ≡ false
+    no40 = grind (arith, nat_tests)
+
+    no41 : (b == 41) ≡ false
+    no41 = grind (arith, nat_tests)
+
+    no92 : (b == 92) ≡ false
+    no92 = grind (arith, nat_tests)
+
+    go : (escaped : Bool) → PlainRaw depth escaped b
+    go true = record {
+      ends = rw (zero-not, more, no127) refl;
+      deep = refl;
+      same = refl;
+      bare = refl;
+    }
+    go false = record {
+      ends = rw (zero-not, more, no127, no41) refl;
+      deep = rw no40 refl;
+      same = rw (no40, no41) refl;
+      bare = rw no92 refl;
+    }
+
+pub raw-plain : (found : Option ℕ) (n depth : ℕ) (escaped : Bool) (rest : List ℕ) →
+    further n (raw_len depth escaped rest) ≡ found → (b m : ℕ) (bs : List ℕ) → rest ≡ b ∷ bs →
+    is_plain_raw b ≡ true → n + 1 ≡ m → further m (raw_len depth false bs) ≡ found
+raw-plain found n depth escaped rest before b m bs is plain next =
+    let p : PlainRaw depth escaped b = plain-raw depth escaped b plain in
+    ap (λ (d : ℕ). further m (raw_len d false bs)) (sym p.same)
+    ∙ ap (λ (e : Bool). further m (raw_len (depth_after depth escaped b) e bs)) (sym p.bare)
+    ∙ raw-goes found n depth escaped rest before b m bs is p.ends p.deep next
+
 pub depth-few : (depth b : ℕ) (escaped : Bool) → depth ≤ 32 → is_too_deep depth escaped b ≡ false →
     depth_after depth escaped b ≤ 32
 depth-few depth b true few deep = few

@@ -69,6 +69,10 @@ depth_after depth escaped b = if escaped then depth else definition.depth_after 
 abbrev pub is_escaped_after : Bool → ℕ → Bool
 is_escaped_after escaped b = not escaped && (b == backslash)
 
+-- a byte of it that opens and closes nothing: those after `)` but a backslash and U+007F
+abbrev pub is_plain_raw : ℕ → Bool
+is_plain_raw b = nat_lt 41 b && not (b == backslash) && not (b == 127)
+
 -- so many bytes, if each parenthesis is closed
 abbrev pub closed : ℕ → ℕ → Option ℕ
 closed depth len = if depth == 0 then Some len else None

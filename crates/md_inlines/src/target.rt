@@ -1,5 +1,5 @@
 // What a link or an image leads to (CommonMark 6.3): labels and resources.
-ghost use Rattle.std.specs.Prelude.{◌≡◌, ◌≤◌, ◌<◌, ◌==◌, false, length, count_by, IfSome};
+ghost use Rattle.std.specs.Prelude.{◌≡◌, ◌≤◌, ◌<◌, ◌-◌, ◌==◌, false, length, count_by, nat_le, IfSome};
 ghost use Rattle.std.specs.List.{list_any, list_all};
 ghost use Rattle.md_inlines.specs.Characters as characters;
 ghost use Rattle.md_inlines.specs.Target as target;
@@ -26,12 +26,19 @@ fn endings(text: &[u8]) -> usize
     text.iter().filter(|byte| **byte == b'\n').count()
 }
 
+/// Whether a label has at most so many bytes as one may have, without its line endings.
+fn is_short(text: &[u8]) -> bool
+    ensures { result ≡ nat_le (length text.now - count_by (λ b. b == 10) text.now) 999 }
+{
+    text.len() <= 999 || text.len() - endings(text) <= 999
+}
+
 /// Whether this is a label: not blank, and not long.
 #[tactic(auto, using(crate::proofs::LabelLemmas::label_is))]
 fn is_label(text: &[u8]) -> bool
     ensures { result ≡ target.is_label text.now }
 {
-    !is_blank(text) && text.len() - endings(text) <= 999
+    !is_blank(text) && is_short(text)
 }
 
 /// How many bytes are between two marks, the first of which is before this text.
@@ -129,6 +136,13 @@ fn closed(depth: usize, len: usize) -> Option<usize>
     if depth == 0 { Some(len) } else { None }
 }
 
+/// Whether this is a byte of a destination, whatever is before it, that opens and closes nothing.
+fn is_plain_raw(byte: u8) -> bool
+    ensures { result ≡ target.is_plain_raw byte }
+{
+    byte > b')' && byte != b'\\' && byte != 0x7f
+}
+
 /// How many bytes of a destination without angle brackets come first.
 fn raw_len(text: &[u8]) -> Option<usize>
     ensures value { result ≡ target.raw_len 0 false text.now }
@@ -138,15 +152,20 @@ fn raw_len(text: &[u8]) -> Option<usize>
     let mut escaped = false;
     let mut rest = text;
     while let Some((first, others)) = rest.split_first() {
-        if ends_raw(depth, escaped, *first) {
-            return closed(depth, text.len() - rest.len());
+        if is_plain_raw(*first) {
+            escaped = false;
+            rest = others;
+        } else {
+            if ends_raw(depth, escaped, *first) {
+                return closed(depth, text.len() - rest.len());
+            }
+            if is_too_deep(depth, escaped, *first) {
+                return None;
+            }
+            depth = depth_after(depth, escaped, *first);
+            escaped = is_escaped_after(escaped, *first);
+            rest = others;
         }
-        if is_too_deep(depth, escaped, *first) {
-            return None;
-        }
-        depth = depth_after(depth, escaped, *first);
-        escaped = is_escaped_after(escaped, *first);
-        rest = others;
     }
     closed(depth, text.len())
 }
