@@ -4,8 +4,8 @@
 The texts are what a reader of inline content may read again and again: what opens and is not closed, what closes
 nothing, searches that fail, and labels that are looked up. The built program `test_cost` (`rt ci` builds it: `out`;
 where PROGRAMS is set, it is in that folder) reads them by the layer `Inlines` with the constructs of GitHub. Valgrind
-counts its instructions: those on a text of SIZE characters and on one of four times as many, each less those on no
-text. A list that grows is copied at some sizes and not at others, so the times are the mean of two doublings.
+counts its instructions: those on a text of SIZE characters and on one of eight times as many, each less those on no
+text. A list that grows is copied at some sizes and not at others, so the times are the mean of three doublings.
 With `--measure` it prints the instructions by character, too. `--program FILE` tries another build of the program.
 """
 
@@ -176,10 +176,10 @@ def main() -> None:
     empty = instructions(asked.program, "")
 
     def tried(name: str) -> bool:
-        once, fourfold = (instructions(asked.program, HOSTILE[name](times * SIZE)) - empty for times in (1, 4))
-        growth = (fourfold / once) ** 0.5
+        once, more = (instructions(asked.program, HOSTILE[name](times * SIZE)) - empty for times in (1, 8))
+        growth = (more / once) ** (1 / 3)
         if asked.measure:
-            print(f"| {name} | {fourfold / SIZE / 4:.0f} | {growth:.2f} times |", flush=True)
+            print(f"| {name} | {more / SIZE / 8:.0f} | {growth:.2f} times |", flush=True)
         if growth > WANTED:
             print(f"{name}: twice the text takes {growth:.2f} times the instructions", flush=True)
         return growth <= WANTED
