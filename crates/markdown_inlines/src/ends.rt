@@ -1,8 +1,8 @@
 // Searches that fail: from which place of a text on a run of backticks or of dollars, or the end of raw HTML, is known
 // to be absent, and where no domain begins. So no text is searched for them again and again.
 //
-// All but domains are listed before a text is read, by one pass from its end, where the text has a byte that begins such
-// a search.
+// All but domains are listed before a text is read, by one pass from its end, where the text has a byte that begins
+// such a search.
 
 ghost use Rattle.std.specs.Prelude.{◌≡◌, ℕ, ◌≤◌, ◌+◌, true, IfOk, List, OnOk, None, codes, drop, get_or, nat_le};
 ghost use Rattle.md_meaning.specs.Html as h;

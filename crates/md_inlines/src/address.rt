@@ -180,8 +180,8 @@ fn before_last_empty(text: &[u8]) -> usize
     0
 }
 
-/// After how many places at the front no domain begins, where a dot is there. A `_` in one of its last two segments makes
-/// a domain none, and each that begins after a dot of it; an empty segment makes those none that begin before it.
+/// After how many places at the front no domain begins, where a dot is there. A `_` in one of its last two segments
+/// makes a domain none, and each that begins after a dot of it; an empty segment makes those none that begin before it.
 pub fn no_domain_len(text: &[u8]) -> usize
     ensures is { addresses.HasNoDomain text.now result }
     ensures bound { result ≤ length text.now }

@@ -1,5 +1,6 @@
 -- Case folding of ASCII text is that to lower case.
-use Rattle.std.proofs.Common.{◌≡◌, ℕ, ◌<◌, List, IsAscii, chars, encode_utf8_all, get_or, map, ap, sym, ◌∙◌, subst, arith}
+use Rattle.std.proofs.Common.{◌≡◌, ℕ, ◌<◌, List, IsAscii, chars, encode_utf8_all, get_or, map, ap, sym, ◌∙◌, subst}
+use Rattle.std.proofs.Common.{arith}
 use Rattle.std.specs.Char.{to_ascii_lowercase}
 use Rattle.std.proofs.lemmas.Bool.Decides.{nat_tests}
 use Rattle.std.proofs.lemmas.Str.{chars-IsAscii, encodes-IsAscii}
