@@ -79,7 +79,8 @@ def bodies_together(rt, crate, edits):
     for edit in edits:
         with open(edit, encoding="utf-8") as file:
             said = file.read()
-        pairs = re.findall(r"^file: (src/\S+)\nold: (.*)\nnew: ?(.*)\n?\Z", re.sub(r"^function: .*\n", "", said, flags=re.M), re.M)
+        said = re.sub(r"^function: .*\n", "", said, flags=re.M)
+        pairs = re.findall(r"^file: (src/\S+)\nold: (.*)\nnew: ?(.*)\n?\Z", said, re.M)
         if len(pairs) != 1 or rt.read_edit(edit, crate.folder)[1]:
             continue
         path, old, new = pairs[0]
@@ -114,7 +115,8 @@ def try_edits_by_function(rt):
         ran = checked(crate, texts, whole, kept)
         if ran.returncode != 1 or any(rt.unread(line, texts) for line in ran.stdout.split("\n")):
             return {}
-        failed = re.findall(r"^fn (\S+): (?:not proved|no proof)(?!.*(?:it calls|it passes|a call of))", ran.stdout, re.M)
+        alone = r"(?!.*(?:it calls|it passes|a call of))"
+        failed = re.findall(rf"^fn (\S+): (?:not proved|no proof){alone}", ran.stdout, re.M)
         said = "refused, as it must be, beside others: the proof of {} fails"
         refused = {
             edit: (True, f"must-fail {crate.name}/{os.path.basename(edit)}: {said.format(name)}")

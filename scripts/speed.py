@@ -562,7 +562,8 @@ def print_beside(program: Program, text: str, runs: int) -> None:
 
 def main() -> None:
     parser = argparse.ArgumentParser(description=__doc__, formatter_class=argparse.RawDescriptionHelpFormatter)
-    parser.add_argument("tables", nargs="*", metavar="TABLE", help="cost, growth, times, beside, inlines; the first three if none is named")
+    named = "cost, growth, times, beside, inlines; the first three if none is named"
+    parser.add_argument("tables", nargs="*", metavar="TABLE", help=named)
     parser.add_argument("--program", type=Path, default=ROOT / "crates/blocks/out/blocks", help="what is measured")
     parser.add_argument("--size", type=int, default=240_000, help="bytes of a text that is counted (240000)")
     parser.add_argument("--other", action="append", default=[], metavar="COMMAND", help="counted beside it by `cost`")
