@@ -13,7 +13,7 @@ use Rattle.md_engine.specs.Scheme.{valid}
 use Rattle.md_engine.specs.TextFeed.{text_feed}
 use Rattle.md_engine.specs.World.{World}
 use Rattle.md_events.specs.Spaces.{IsRest}
-use Rattle.md_exact.specs.Places.{TextLine}
+use Rattle.md_events.specs.Exact.Places.{TextLine}
 use Rattle.md_flow.proofs.LineRule.Leaf.{next-blank}
 use Rattle.md_flow.proofs.LineRule.Refused.{not-continued}
 use Rattle.md_flow.specs.LineRule.{IsMet, IsMetFirst, IsNext, first_state, further_state, is_asked_first, opener_state}

@@ -24,8 +24,8 @@ use Rattle.md_engine.specs.World.{Setting, World, looks}
 use Rattle.md_engine.proofs.Keeps.{runs-setting}
 use Rattle.md_events.proofs.FeedLines.{feed-none}
 use Rattle.md_events.specs.Events.Places.{last_line}
-use Rattle.md_exact.specs.Places.{TextLine, line_at, lines_from, whole}
-use Rattle.md_exact.specs.Prefixes.{containers}
+use Rattle.md_events.specs.Exact.Places.{TextLine, line_at, lines_from, whole}
+use Rattle.md_events.specs.Exact.Prefixes.{containers}
 use Rattle.md_leaves.specs.BlankRule.{blank_at}
 use Rattle.std.specs.List.{onto_first}
 use Rattle.md_meaning.specs.Lines.{ends_line, full_lines_of}

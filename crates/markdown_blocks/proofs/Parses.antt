@@ -18,7 +18,7 @@ use Rattle.md_events.specs.Events.Tiles.{IsBlockList, plain_read}
 use Rattle.md_events.specs.Substituted.{Substituted}
 use Rattle.md_events.specs.TextPart.{text_readings, wants_text}
 use Rattle.md_events.proofs.PlainTiles.{plain-only}
-use Rattle.md_exact.specs.Blocks.{exact}
+use Rattle.md_events.specs.Exact.Blocks.{exact}
 use Rattle.proof_leaf_laws.specs.Front.{body_point, front_events}
 use Rattle.proof_frame.specs.ReadsPlain.{reads_plain}
 use Rattle.markdown_blocks.specs.Parsed.{IsParsed, IsRead}

@@ -9,7 +9,7 @@ use Rattle.md_engine.specs.Found.{Found}
 use Rattle.md_engine.specs.World.{World}
 use Rattle.md_containers.specs.Listed.{listed}
 use Rattle.md_events.proofs.PlacesLemmas.{Placed}
-use Rattle.md_exact.specs.Places.{TextLine, line_at, lines_from}
+use Rattle.md_events.specs.Exact.Places.{TextLine, line_at, lines_from}
 use Rattle.md_meaning.specs.Bytes.{is_end}
 use Rattle.md_meaning.specs.Lines.{ends_line, full_lines_of, is_ending, without_ending}
 use Rattle.proof_exact_lines.proofs.ExactListed.{begun, body-listed}

@@ -16,10 +16,10 @@ use Rattle.md_meaning.specs.State.{Container, Leaf, NoLeaf, OpenCode, OpenFence,
 use Rattle.md_meaning.specs.State.{Path, cut, spot, texts}
 use Rattle.md_meaning.specs.Step.{steps, with_lazy}
 use Rattle.md_meaning.specs.Tree.{End}
-use Rattle.md_exact.specs.Places.{TextLine, line_at, whole}
-use Rattle.md_exact.specs.Prefixes.{containers, following_all}
-use Rattle.md_exact.specs.Rows.{AfterCode, Blank, Delimiter, First, FirstText, Further, FurtherText, Head, Role}
-use Rattle.md_exact.specs.Rows.{Underline, first_or, fresh_role, is_blank_role, role_before, role_on, row_of}
+use Rattle.md_events.specs.Exact.Places.{TextLine, line_at, whole}
+use Rattle.md_events.specs.Exact.Prefixes.{containers, following_all}
+use Rattle.md_events.specs.Exact.Rows.{AfterCode, Blank, Delimiter, First, FirstText, Further, FurtherText, Head, Role}
+use Rattle.md_events.specs.Exact.Rows.{Underline, first_or, fresh_role, is_blank_role, role_before, role_on, row_of}
 use Rattle.proof_exact_lines.specs.Last.{HasLine}
 use Rattle.proof_exact_lines.proofs.ExactListed.{by-new}
 use Rattle.proof_exact_lines.proofs.LineWalk.{after}

@@ -24,9 +24,9 @@ use Rattle.md_events.specs.TextPart.{wants_text}
 use Rattle.md_events.proofs.InlineLemmas.{same-refl}
 use Rattle.md_events.proofs.OnLemmas.{tree-on}
 use Rattle.md_events.proofs.ReachedLemmas.{events-placed}
-use Rattle.md_exact.specs.Blocks.{exact, front_line, front_row, front_size, mark_events, tail, text_lines}
-use Rattle.md_exact.specs.Leaves.{leaf}
-use Rattle.md_exact.specs.Places.{TextLine, lines_from}
+use Rattle.md_events.specs.Exact.Blocks.{exact, front_line, front_row, front_size, mark_events, tail, text_lines}
+use Rattle.md_events.specs.Exact.Leaves.{leaf}
+use Rattle.md_events.specs.Exact.Places.{TextLine, lines_from}
 use Rattle.md_meaning.specs.Grouped.{grouped}
 use Rattle.md_meaning.specs.Label.{Labels, both, labels, no_labels}
 use Rattle.md_meaning.specs.Lines.{begins_with, ends_line, full_lines_of, is_ending, lines_of}

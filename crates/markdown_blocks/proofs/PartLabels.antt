@@ -13,7 +13,7 @@ use Rattle.md_meaning.specs.Rest.{Rest}
 use Rattle.md_meaning.specs.State.{closed}
 use Rattle.md_meaning.specs.Step.{steps}
 use Rattle.md_meaning.specs.Tree.{Blocks}
-use Rattle.md_exact.specs.Places.{TextLine, whole}
+use Rattle.md_events.specs.Exact.Places.{TextLine, whole}
 use Rattle.proof_content_laws.proofs.Labels.Trees.{grouped-defined, grouped-noted}
 use Rattle.proof_exact.specs.Parts.{AreTwoTrees, BeginsEmpty, EndsLine, IsCut, IsTextCut, empty_line, lines_blocks}
 use Rattle.proof_exact.specs.Parts.{nothing_open, placed_lines}

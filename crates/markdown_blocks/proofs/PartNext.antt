@@ -20,7 +20,7 @@ use Rattle.md_events.proofs.InlineLemmas.{same-refl}
 use Rattle.md_events.proofs.PlacesLemmas.{Placed, at-next, drop-next, placed-facts}
 use Rattle.md_events.proofs.ReachedLemmas.{point-placed}
 use Rattle.md_events.proofs.TextParts.{placed-events}
-use Rattle.md_exact.specs.Places.{TextLine, line_at, lines_from}
+use Rattle.md_events.specs.Exact.Places.{TextLine, line_at, lines_from}
 use Rattle.md_meaning.specs.Label.{both, labels}
 use Rattle.md_meaning.specs.Lines.{ends_line, full_lines_of, is_ending, lines_of}
 use Rattle.md_meaning.specs.Preamble.{rests_at}

@@ -29,7 +29,7 @@ use Rattle.md_events.proofs.NestsLemmas.{tiles-nested, tiles-placed}
 use Rattle.md_events.proofs.OnLemmas.{tree-on}
 use Rattle.md_events.proofs.PartsLemmas.{tiles-spelled}
 use Rattle.md_events.proofs.ReachedLemmas.{events-placed}
-use Rattle.md_exact.specs.Blocks.{exact}
+use Rattle.md_events.specs.Exact.Blocks.{exact}
 use Rattle.markdown_blocks.specs.FlowReads.{FlowReads}
 use Rattle.proof_container_laws.specs.Footnotes.{footnotes_listed}
 use Rattle.proof_leaf_laws.specs.Front.{body_point, front_events}

@@ -35,7 +35,7 @@ use Rattle.md_outline.specs.HeadingDepths.{are_shallow}
 use Rattle.md_outline.specs.Outlined.{IsOutlined}
 use Rattle.md_events.proofs.FilledLemmas.{spelled-filled}
 use Rattle.md_events.proofs.OnLemmas.{tree-on}
-use Rattle.md_exact.specs.Blocks.{exact}
+use Rattle.md_events.specs.Exact.Blocks.{exact}
 use Rattle.proof_exact.proofs.ExactIs.{exact-is}
 use Rattle.proof_rows.specs.BlockList.{block_list, tabled_groups}
 use Rattle.proof_leaf_laws.specs.Front.{body_point, front_events}

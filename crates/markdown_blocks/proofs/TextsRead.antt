@@ -20,11 +20,11 @@ use Rattle.md_content.specs.Joined.{is_content, joined}
 use Rattle.md_events.proofs.FeedLines.{feed-none}
 use Rattle.md_events.specs.Events.Nested.{enter_link, exit}
 use Rattle.md_events.specs.Substituted.{Substituted}
-use Rattle.md_exact.specs.Blocks.{grouped}
-use Rattle.md_exact.specs.Leaves.{leaf as leaf_lines, runs_line}
-use Rattle.md_exact.specs.Places.{TextLine, lines_from}
-use Rattle.md_exact.specs.Rows.{Delimiter, Row, Underline}
-use Rattle.md_exact.specs.Rows.{rows_of as exact_rows}
+use Rattle.md_events.specs.Exact.Blocks.{grouped}
+use Rattle.md_events.specs.Exact.Leaves.{leaf as leaf_lines, runs_line}
+use Rattle.md_events.specs.Exact.Places.{TextLine, lines_from}
+use Rattle.md_events.specs.Exact.Rows.{Delimiter, Row, Underline}
+use Rattle.md_events.specs.Exact.Rows.{rows_of as exact_rows}
 use Rattle.md_link_definitions.specs.OpenText.{open_text}
 use Rattle.md_link_definitions.specs.Progress.{progress_of, step}
 use Rattle.md_meaning.specs.Rest.{trim_start}

@@ -17,7 +17,7 @@ use Rattle.md_engine.specs.Run.{Calls, Runs, Step}
 use Rattle.md_engine.specs.Run.Runs.{Stays, ThenCalls, ThenLeaves}
 use Rattle.md_engine.specs.TextFeed.{text_feed}
 use Rattle.md_engine.specs.World.{World, container_of, fresh, looks, reads_to}
-use Rattle.md_exact.specs.Places.{TextLine}
+use Rattle.md_events.specs.Exact.Places.{TextLine}
 use Rattle.md_meaning.specs.Preamble.{rest_at}
 use Rattle.md_meaning.specs.Rest.{Rest}
 use Rattle.md_events.specs.Events.Spelled.{Reading, read, unread}

@@ -3,8 +3,8 @@ use Rattle.std.specs.Prelude.{ℕ, List, ◌++◌, map, take}
 use Rattle.md_engine.specs.declared.configuration.ParseOptions.{ParseOptions}
 use Rattle.md_engine.specs.declared.event.Event.{Event}
 use Rattle.md_engine.specs.declared.event.Name.TheVariants as n
-use Rattle.md_exact.specs.Blocks.{front_line, front_row, front_size, mark_events, tail, text_lines}
-use Rattle.md_exact.specs.Leaves.{leaf}
+use Rattle.md_events.specs.Exact.Blocks.{front_line, front_row, front_size, mark_events, tail, text_lines}
+use Rattle.md_events.specs.Exact.Leaves.{leaf}
 use Rattle.md_meaning.specs.Preamble.{without_mark}
 use Rattle.md_meaning.specs.Texts.{first_byte}
 

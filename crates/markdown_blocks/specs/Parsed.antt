@@ -23,7 +23,7 @@ use Rattle.md_outline.specs.Outlined.{IsOutlined}
 use Rattle.md_wrap.specs.Footnoted.{NestsInFootnote, footnoted}
 pub use Rattle.md_meaning.specs.Wrapped.{IsItemable, IsQuotable, IsSmall}
 pub use Rattle.proof_rows.specs.WithoutMdx.{IsWithoutMdx}
-use Rattle.md_exact.specs.Blocks.{exact}
+use Rattle.md_events.specs.Exact.Blocks.{exact}
 use Rattle.proof_frame.specs.ReadsPlain.{reads_plain}
 
 -- What is known of a text that was read with an inline layer, whatever it is: its events nest, are at its points, spell

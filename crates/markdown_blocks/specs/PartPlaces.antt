@@ -9,7 +9,7 @@ use Rattle.md_events.specs.Events.Nested.{is_exit}
 use Rattle.md_events.specs.Events.Tiles.{chunks, inside_part, is_part, part_at, part_kind}
 use Rattle.md_events.specs.Substituted.{chunk_of}
 use Rattle.md_events.specs.TextPart.{Document, IsTextPartAt, is_of_block, place_by, place_of}
-use Rattle.md_exact.specs.Blocks.{exact}
+use Rattle.md_events.specs.Exact.Blocks.{exact}
 
 -- whether a chunk begins with an event inside of a text part, by the events after it
 abbrev pub begins_chunk : Event → List Event → Bool

@@ -17,7 +17,7 @@ use Rattle.md_events.specs.Events.Places.{are_placed, first_point}
 use Rattle.md_events.specs.Events.Tiles.{IsBlockList, end_point}
 use Rattle.md_events.specs.Lined.{lined}
 use Rattle.md_events.specs.TextPart.{wants_text}
-use Rattle.md_exact.specs.Blocks.{exact}
+use Rattle.md_events.specs.Exact.Blocks.{exact}
 use Rattle.md_meaning.specs.Label.{Labels, both, labels, no_labels}
 use Rattle.md_meaning.specs.Lines.{lines_of}
 use Rattle.md_meaning.specs.Meaning.{tree}

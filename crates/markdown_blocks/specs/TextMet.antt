@@ -15,8 +15,8 @@ use Rattle.md_engine.specs.World.{World}
 use Rattle.md_content.specs.ContentReads.{part_world}
 use Rattle.md_content.specs.States.{ContentStep, content_start}
 use Rattle.md_events.specs.declared.inline.Chunk.{Chunk}
-use Rattle.md_exact.specs.Places.{TextLine, line_end, next_line, place}
-use Rattle.md_exact.specs.Rows.{Row}
+use Rattle.md_events.specs.Exact.Places.{TextLine, line_end, next_line, place}
+use Rattle.md_events.specs.Exact.Rows.{Row}
 use Rattle.md_flow.specs.LineRule.{IsNext}
 use Rattle.md_meaning.specs.Rest.{Rest}
 use Rattle.markdown_blocks.specs.TextRule.{AreAhead, AreLeft}

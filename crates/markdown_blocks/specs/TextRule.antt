@@ -16,10 +16,10 @@ use Rattle.md_engine.specs.Sees.{Sees}
 use Rattle.md_engine.specs.World.{World}
 use Rattle.md_events.proofs.RestCells.{rest_cells}
 use Rattle.md_events.specs.Spaces.{IsRest}
-use Rattle.md_exact.specs.Leaves.{last_end, start}
-use Rattle.md_exact.specs.Places.{TextLine, line_end, next_line, place}
-use Rattle.md_exact.specs.Rows.{FirstText, FurtherText, Role, Row}
-use Rattle.md_exact.specs.Texts.{definition, definition_end, gap, lines_left, on_first, remaining}
+use Rattle.md_events.specs.Exact.Leaves.{last_end, start}
+use Rattle.md_events.specs.Exact.Places.{TextLine, line_end, next_line, place}
+use Rattle.md_events.specs.Exact.Rows.{FirstText, FurtherText, Role, Row}
+use Rattle.md_events.specs.Exact.Texts.{definition, definition_end, gap, lines_left, on_first, remaining}
 use Rattle.md_meaning.specs.Definition.{definition_at}
 use Rattle.md_meaning.specs.Rest.{Rest, after_indent}
 use Rattle.md_flow.specs.LineRule.{IsNext, IsTaken, Leaves}

@@ -6,10 +6,10 @@ use Rattle.md_engine.specs.declared.event.Event.{Event}
 use Rattle.md_engine.specs.declared.event.Name.TheVariants as n
 use Rattle.md_content.specs.Chunks.{content_link}
 use Rattle.md_events.specs.Events.Nested.{enter_link, exit}
-use Rattle.md_exact.specs.Blocks.{front_size, grouped, tail, text_lines}
-use Rattle.md_exact.specs.Leaves.{leaf, runs_line}
-use Rattle.md_exact.specs.Places.{line_end, place}
-use Rattle.md_exact.specs.Rows.{Head, Row, Underline, rows_of}
+use Rattle.md_events.specs.Exact.Blocks.{front_size, grouped, tail, text_lines}
+use Rattle.md_events.specs.Exact.Leaves.{leaf, runs_line}
+use Rattle.md_events.specs.Exact.Places.{line_end, place}
+use Rattle.md_events.specs.Exact.Rows.{Head, Row, Underline, rows_of}
 use Rattle.md_meaning.specs.State.{At}
 use Rattle.md_meaning.specs.Step.{spot_of}
 use Rattle.md_meaning.specs.Tree.{End}

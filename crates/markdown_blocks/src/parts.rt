@@ -26,7 +26,7 @@ ghost use Rattle.md_events.specs.Events.Places.{first_point, same_place};
 ghost use Rattle.md_events.specs.Events.Tiles.{end_point};
 ghost use Rattle.md_events.specs.Lined.{AreLines, lined};
 ghost use Rattle.md_events.specs.TextPart.{wants_text};
-ghost use Rattle.md_exact.specs.Blocks.{exact};
+ghost use Rattle.md_events.specs.Exact.Blocks.{exact};
 ghost use Rattle.md_meaning.specs.Label.{both, labels, no_labels};
 ghost use Rattle.md_meaning.specs.Meaning.{tree};
 ghost use Rattle.md_registry.specs.States.{FlowStep, flow_table_scheme};

@@ -4,7 +4,7 @@ ghost use Rattle.std.specs.Prelude.{◌≡◌, ◌∷◌, [], IfOk, IfSome, true
 ghost use Rattle.md_events.specs.Events.Tiles.{part_at, part_kind};
 ghost use Rattle.md_events.specs.Parts.{ArePlaced};
 ghost use Rattle.md_events.specs.TextPart.{IsTextPart, document_of};
-ghost use Rattle.md_exact.specs.Blocks.{exact};
+ghost use Rattle.md_events.specs.Exact.Blocks.{exact};
 ghost use Rattle.md_meaning.specs.Wrapped.{IsSmall};
 ghost use Rattle.markdown_blocks.specs.Parsed.{IsWithoutMdx};
 ghost use Rattle.markdown_blocks.specs.PartPlaces.{IsPartAt, IsPlaceOf, chunk_at, chunks_in};

@@ -10,6 +10,7 @@ pub mod Ahead
 pub mod Look
 pub mod Substituted
 pub mod Events
+pub mod Exact
 pub mod FirstPlace
 pub mod TextPart
 pub mod Lined

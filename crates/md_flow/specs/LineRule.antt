@@ -43,12 +43,12 @@ use Rattle.md_events.proofs.FeedLines.{Stops}
 use Rattle.md_events.proofs.RestCells.{rest_cells}
 use Rattle.md_events.specs.Events.Nested.{enter_link, exit}
 use Rattle.md_events.specs.Spaces.{IsRest}
-use Rattle.md_exact.proofs.OnLine.{LineIn, OnLine}
-use Rattle.md_exact.specs.Blocks.{leaf_events}
-use Rattle.md_exact.specs.Leaves.{content_line, fenced_line, for_marker, leaf, runs_line}
-use Rattle.md_exact.specs.Places.{TextLine, line_end, place}
-use Rattle.md_exact.specs.Prefixes.{further_prefix}
-use Rattle.md_exact.specs.Rows.{Blank, Delimiter, First, FirstText, Further, FurtherText, Role, Row, Underline, role_on}
+use Rattle.proof_exact_pieces.proofs.OnLine.{LineIn, OnLine}
+use Rattle.md_events.specs.Exact.Blocks.{leaf_events}
+use Rattle.md_events.specs.Exact.Leaves.{content_line, fenced_line, for_marker, leaf, runs_line}
+use Rattle.md_events.specs.Exact.Places.{TextLine, line_end, place}
+use Rattle.md_events.specs.Exact.Prefixes.{further_prefix}
+use Rattle.md_events.specs.Exact.Rows.{Blank, Delimiter, First, FirstText, Further, FurtherText, Role, Row, Underline, role_on}
 use Rattle.md_leaves.specs.Further.{further_link}
 use Rattle.md_leaves.specs.HeadingText.{headings_resolved}
 use Rattle.md_meaning.specs.Containers.{Taken, continues, opens_footnote, opens_item, opens_quote}

@@ -12,7 +12,7 @@ use Rattle.md_events.specs.Events.Nested.{Nested}
 use Rattle.md_events.specs.Events.Spelled.{spelled}
 use Rattle.md_events.specs.Lined.{lined}
 use Rattle.md_events.specs.TextPart.{wants_text}
-use Rattle.md_exact.specs.Blocks.{exact}
+use Rattle.md_events.specs.Exact.Blocks.{exact}
 use Rattle.md_meaning.specs.Label.{Labels, both, labels, no_labels}
 use Rattle.md_meaning.specs.Meaning.{tree}
 use Rattle.md_meaning.specs.Outline.{outline}

@@ -17,7 +17,7 @@ use Rattle.md_events.specs.Events.Spelled.{spelled}
 use Rattle.md_events.specs.Events.Tiles.{plain_read}
 use Rattle.md_events.specs.Lined.{lined}
 use Rattle.md_events.specs.TextPart.{wants_text}
-use Rattle.md_exact.specs.Blocks.{exact}
+use Rattle.md_events.specs.Exact.Blocks.{exact}
 use Rattle.md_meaning.specs.Grouped.{grouped}
 use Rattle.md_meaning.specs.Meaning.{tree, with_frontmatter}
 use Rattle.md_outline.specs.HeadingDepths.{are_shallow}

@@ -7,9 +7,9 @@ use Rattle.md_meaning.specs.Rest.{Rest}
 use Rattle.md_meaning.specs.State.{Container, Leaf, NoLeaf, OpenCode, OpenFence, OpenHtml, OpenParagraph, OpenTable}
 use Rattle.md_meaning.specs.State.{Path, spot}
 use Rattle.md_meaning.specs.Step.{step}
-use Rattle.md_exact.specs.Blocks.{is_continued as role_continues}
-use Rattle.md_exact.specs.Places.{TextLine, whole}
-use Rattle.md_exact.specs.Rows.{rows_of}
+use Rattle.md_events.specs.Exact.Blocks.{is_continued as role_continues}
+use Rattle.md_events.specs.Exact.Places.{TextLine, whole}
+use Rattle.md_events.specs.Exact.Rows.{rows_of}
 use Rattle.proof_frame.specs.Change.{against, is_none, others_of}
 use Rattle.proof_frame.specs.HeldLeaf.{kind_of_leaf, met_by, takes_lazy}
 use Rattle.proof_frame.specs.LeafName.{LeafName}

@@ -14,20 +14,20 @@ use Rattle.md_meaning.specs.State.{At, Container, InFootnote, InItem, InQuote, I
 use Rattle.md_meaning.specs.Step.{spot_of, with_lazy}
 use Rattle.std.specs.Option.{is_some}
 use Rattle.md_meaning.specs.Tree.{Blocks, End, Item, More}
-use Rattle.md_exact.specs.Blocks as blocks
-use Rattle.md_exact.specs.Places.{TextLine, line_end, place, whole}
-use Rattle.md_exact.specs.Prefixes.{following_all, containers, end_in_item, taken_prefixes, new_containers}
-use Rattle.md_exact.specs.Rows.{AfterCode, Blank, Delimiter, First, FirstText, Further, FurtherText, Head, Role, Row}
-use Rattle.md_exact.specs.Rows.{Underline, begin_with_item, container_name, ends_from, is_blank_role, list_ends}
-use Rattle.md_exact.specs.Rows.{list_continued}
-use Rattle.md_exact.specs.Rows.{next_role, next_stays, role_before, role_on, row_of, rows_of}
+use Rattle.md_events.specs.Exact.Blocks as blocks
+use Rattle.md_events.specs.Exact.Places.{TextLine, line_end, place, whole}
+use Rattle.md_events.specs.Exact.Prefixes.{following_all, containers, end_in_item, taken_prefixes, new_containers}
+use Rattle.md_events.specs.Exact.Rows.{AfterCode, Blank, Delimiter, First, FirstText, Further, FurtherText, Head, Role, Row}
+use Rattle.md_events.specs.Exact.Rows.{Underline, begin_with_item, container_name, ends_from, is_blank_role, list_ends}
+use Rattle.md_events.specs.Exact.Rows.{list_continued}
+use Rattle.md_events.specs.Exact.Rows.{next_role, next_stays, role_before, role_on, row_of, rows_of}
 use Rattle.proof_exact_lines.specs.Last.{HasLine, last_at, last_in, last_of, marker_in}
 use Rattle.proof_exact_lines.proofs.ExactListed.{by-new, line-text, open-follows}
 use Rattle.proof_exact_lines.proofs.LineWalk.{after, stays-fewer}
 use Rattle.proof_exact_lines.proofs.RowLast.{Remains, begins-facts, last-drop, last-whole, new_on, on_of}
 use Rattle.proof_exact_lines.proofs.RowLast.{remains-facts}
 use Rattle.proof_exact_lines.proofs.StepLast.{held_in}
-use Rattle.md_exact.specs.Prefixes.{list_name}
+use Rattle.md_events.specs.Exact.Prefixes.{list_name}
 use Rattle.proof_exact.specs.Parts.{NoItemLast, open_after}
 
 -- Rows where nothing is open: none of the lines before them continues there.

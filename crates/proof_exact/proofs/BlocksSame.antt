@@ -2,7 +2,7 @@
 use Rattle.std.proofs.Common.{◌≡◌, ℕ, ◌^◌, ◌<◌, List, [], ◌∷◌, ◌++◌, length, sym, ap, ap₂, ◌∙◌, subst}
 use Rattle.md_engine.specs.declared.configuration.ParseOptions.{ParseOptions}
 use Rattle.md_engine.specs.declared.event.Event.{Event}
-use Rattle.md_exact.specs.Rows.{Row}
+use Rattle.md_events.specs.Exact.Rows.{Row}
 use Rattle.proof_frame.specs.Row.{Row as FrameRow}
 use Rattle.proof_rows.specs.BlockList.{tabled_group, tabled_groups}
 use Rattle.proof_rows.specs.Rows.{Group, Headed, LeafLines, Lines, Single, Turned}

@@ -6,9 +6,9 @@ use Rattle.std.proofs.lemmas.List.{length-append, map-append}
 use Rattle.md_engine.specs.declared.configuration.ParseOptions.{ParseOptions}
 use Rattle.md_meaning.specs.State.{Container, Leaf, NoLeaf, Path, spot}
 use Rattle.md_meaning.specs.Step.{steps}
-use Rattle.md_exact.specs.Places.{TextLine, whole}
-use Rattle.md_exact.specs.Prefixes.{containers}
-use Rattle.md_exact.specs.Rows.{Row, is_blank_role, row_of}
+use Rattle.md_events.specs.Exact.Places.{TextLine, whole}
+use Rattle.md_events.specs.Exact.Prefixes.{containers}
+use Rattle.md_events.specs.Exact.Rows.{Row, is_blank_role, row_of}
 use Rattle.proof_exact_lines.specs.Last.{HasLine, last_at, last_after, last_in, last_of}
 use Rattle.proof_exact_lines.proofs.ExactListed.{by-new, line-text}
 use Rattle.proof_exact_lines.proofs.LineWalk.{after}

@@ -40,12 +40,12 @@ use Rattle.proof_rows.proofs.GroupLines.{AreLines}
 use Rattle.proof_rows.proofs.JoinedLemmas.{following-is}
 use Rattle.proof_rows.proofs.RowFacts.{IsRow}
 use Rattle.proof_rows.proofs.Text.Reads.{none-found}
-use Rattle.md_exact.specs.Leaves.{onto_next}
-use Rattle.md_exact.specs.Places.{ending, line_end, next_line, past, place}
-use Rattle.md_exact.specs.Rows.{Row}
-use Rattle.md_exact.specs.Texts as Texts
-use Rattle.md_exact.specs.Texts.{definition, gap, lines_left, on_first, text_events}
-use Rattle.md_exact.proofs.OnLine.{LineIn, OnLine}
+use Rattle.md_events.specs.Exact.Leaves.{onto_next}
+use Rattle.md_events.specs.Exact.Places.{ending, line_end, next_line, past, place}
+use Rattle.md_events.specs.Exact.Rows.{Row}
+use Rattle.md_events.specs.Exact.Texts as Texts
+use Rattle.md_events.specs.Exact.Texts.{definition, gap, lines_left, on_first, text_events}
+use Rattle.proof_exact_pieces.proofs.OnLine.{LineIn, OnLine}
 use Rattle.proof_exact_lines.proofs.BeginsAt.{BeginsAt, rest_bytes}
 use Rattle.proof_exact_lines.proofs.LeafLines.{end_at, ends-at}
 use Rattle.proof_exact_lines.proofs.OnLine.{begins-again, on-begins}

@@ -14,9 +14,9 @@ use Rattle.md_meaning.specs.Rest.{Rest, cut_tab, is_blank}
 use Rattle.md_meaning.specs.State.{Leaf, NoLeaf, OpenCode, OpenFence, OpenHtml, OpenParagraph, OpenTable}
 use Rattle.md_events.specs.Events.Places.{column_past, columns_from}
 use Rattle.md_events.proofs.RestCells.{Cut}
-use Rattle.md_exact.specs.Places.{TextLine}
-use Rattle.md_exact.specs.Rows.{AfterCode, First, FirstText, Further, FurtherText, Head, Role, is_blank_role}
-use Rattle.md_exact.specs.Rows as exact
+use Rattle.md_events.specs.Exact.Places.{TextLine}
+use Rattle.md_events.specs.Exact.Rows.{AfterCode, First, FirstText, Further, FurtherText, Head, Role, is_blank_role}
+use Rattle.md_events.specs.Exact.Rows as exact
 use Rattle.proof_exact.proofs.Tails.{last_ending}
 use Rattle.proof_exact_lines.proofs.BeginsAt.{BeginsAt}
 use Rattle.proof_frame.specs.EndingName.{ending_name}

@@ -19,11 +19,11 @@ use Rattle.md_meaning.specs.State.{Container, InFootnote, InItem, InQuote, Leaf,
 use Rattle.md_meaning.specs.State.{OpenParagraph, OpenTable, Path, spot}
 use Rattle.md_meaning.specs.Step.{step, with_lazy}
 use Rattle.md_events.specs.Events.Nested.{exit}
-use Rattle.md_exact.specs.Places.{TextLine, line_end, place, whole}
-use Rattle.md_exact.specs.Prefixes.{following_all, containers, taken_prefixes, new_containers}
-use Rattle.md_exact.specs.Rows as exact
-use Rattle.md_exact.specs.Rows.{Blank, First, FirstText, Further, FurtherText, Role, first_or, next_stays, role_on}
-use Rattle.md_exact.specs.Rows.{row_of, rows_of}
+use Rattle.md_events.specs.Exact.Places.{TextLine, line_end, place, whole}
+use Rattle.md_events.specs.Exact.Prefixes.{following_all, containers, taken_prefixes, new_containers}
+use Rattle.md_events.specs.Exact.Rows as exact
+use Rattle.md_events.specs.Exact.Rows.{Blank, First, FirstText, Further, FurtherText, Role, first_or, next_stays, role_on}
+use Rattle.md_events.specs.Exact.Rows.{row_of, rows_of}
 use Rattle.proof_frame.specs.Change.{Change, change_by, ends_of, is_none, open_following, others_of}
 use Rattle.proof_frame.specs.ContainerNames.{container_name}
 use Rattle.proof_frame.specs.HeldLeaf.{kind_of_leaf, lazy_of, met_by, takes_lazy}

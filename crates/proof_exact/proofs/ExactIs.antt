@@ -8,11 +8,11 @@ use Rattle.md_engine.specs.declared.event.Name.TheVariants as n
 use Rattle.md_containers.specs.Listed.{listed}
 use Rattle.md_meaning.specs.Preamble.{without_mark}
 use Rattle.md_meaning.specs.Texts.{first_byte}
-use Rattle.md_exact.specs.Blocks.{exact, front_line, front_row, front_size, grouped, mark_events}
-use Rattle.md_exact.specs.Blocks.{tail, text_lines}
-use Rattle.md_exact.specs.Leaves.{leaf}
-use Rattle.md_exact.specs.Places.{TextLine}
-use Rattle.md_exact.specs.Rows.{Row, rows_of as exact_rows}
+use Rattle.md_events.specs.Exact.Blocks.{exact, front_line, front_row, front_size, grouped, mark_events}
+use Rattle.md_events.specs.Exact.Blocks.{tail, text_lines}
+use Rattle.md_events.specs.Exact.Leaves.{leaf}
+use Rattle.md_events.specs.Exact.Places.{TextLine}
+use Rattle.md_events.specs.Exact.Rows.{Row, rows_of as exact_rows}
 use Rattle.proof_exact_lines.proofs.Front.{front-same}
 use Rattle.proof_exact_lines.specs.Unlisted.{unlisted, unlisted_groups}
 use Rattle.proof_exact_lines.proofs.ExactText.{exact-listed}

@@ -9,10 +9,10 @@ use Rattle.md_meaning.specs.Containers.{Taken}
 use Rattle.md_meaning.specs.Rest.{Rest}
 use Rattle.md_meaning.specs.State.{Path, spot}
 use Rattle.md_meaning.specs.Step.{step}
-use Rattle.md_exact.specs.Places.{TextLine, whole}
-use Rattle.md_exact.specs.Prefixes.{following_all, containers, taken_prefixes, new_containers}
-use Rattle.md_exact.specs.Rows as exact
-use Rattle.md_exact.specs.Rows.{Role, next_role, role_before, row_of, rows_of}
+use Rattle.md_events.specs.Exact.Places.{TextLine, whole}
+use Rattle.md_events.specs.Exact.Prefixes.{following_all, containers, taken_prefixes, new_containers}
+use Rattle.md_events.specs.Exact.Rows as exact
+use Rattle.md_events.specs.Exact.Rows.{Role, next_role, role_before, row_of, rows_of}
 use Rattle.proof_frame.specs.Change.{is_none}
 use Rattle.proof_frame.specs.HeldLeaf.{may_continue, met_by}
 use Rattle.proof_frame.specs.Row.{Row}

@@ -17,11 +17,11 @@ use Rattle.md_meaning.specs.Step.{step}
 use Rattle.md_events.specs.Events.Nested.{pair}
 use Rattle.md_events.specs.Events.Places.{past_text}
 use Rattle.md_events.proofs.FeedLines.{Stops}
-use Rattle.md_exact.specs.Places.{TextLine, ending, line_end, next_line, place, whole}
-use Rattle.md_exact.specs.Rows as exact
-use Rattle.md_exact.specs.Rows.{row_of, rows_of}
-use Rattle.md_exact.proofs.OnLine.{LineIn, OnLine}
-use Rattle.md_exact.proofs.PlaceLemmas.{line_start}
+use Rattle.md_events.specs.Exact.Places.{TextLine, ending, line_end, next_line, place, whole}
+use Rattle.md_events.specs.Exact.Rows as exact
+use Rattle.md_events.specs.Exact.Rows.{row_of, rows_of}
+use Rattle.proof_exact_pieces.proofs.OnLine.{LineIn, OnLine}
+use Rattle.proof_exact_pieces.proofs.PlaceLemmas.{line_start}
 use Rattle.proof_exact_lines.proofs.Front.{begin}
 use Rattle.proof_exact_lines.proofs.BeginsAt.{BeginsAt}
 use Rattle.proof_exact_lines.proofs.LeafLines.{ends-at}

@@ -22,9 +22,9 @@ use Rattle.md_events.proofs.FeedLines.{front-within, line-feed, past_ending, spr
 use Rattle.md_events.proofs.InlineLemmas.{past-index}
 use Rattle.md_events.proofs.PlacesLemmas.{Placed, placed-text}
 use Rattle.proof_leaf_laws.proofs.FullLines.{IsLines, LastLine, NextLine, NoLines, ending-is, last-ending}
-use Rattle.md_exact.specs.Places.{TextLine, line_at, line_end, lines_from, next_line, place, whole}
-use Rattle.md_exact.proofs.OnLine.{LineIn, whole-on}
-use Rattle.md_exact.proofs.PlaceLemmas.{line_start}
+use Rattle.md_events.specs.Exact.Places.{TextLine, line_at, line_end, lines_from, next_line, place, whole}
+use Rattle.proof_exact_pieces.proofs.OnLine.{LineIn, whole-on}
+use Rattle.proof_exact_pieces.proofs.PlaceLemmas.{line_start}
 use Rattle.proof_exact_lines.proofs.Front.{begin}
 use Rattle.proof_frame.specs.Change.{open_following}
 use Rattle.proof_frame.specs.Row.{Row}

@@ -9,10 +9,10 @@ use Rattle.proof_frame.specs.HeldLeaf.{kind_of_leaf, may_continue}
 use Rattle.proof_frame.specs.LeafName.{CodeFurther}
 use Rattle.proof_frame.specs.Row.{LeafRow, Row as FrameRow, after_row, ending_events, ending_of}
 use Rattle.proof_rows.proofs.RowFacts.{IsRow}
-use Rattle.md_exact.specs.Blocks.{is_continued}
-use Rattle.md_exact.specs.Places.{ending, next_line}
-use Rattle.md_exact.specs.Rows.{AfterCode, Row}
-use Rattle.md_exact.proofs.OnLine.{LineIn, OnLine}
+use Rattle.md_events.specs.Exact.Blocks.{is_continued}
+use Rattle.md_events.specs.Exact.Places.{ending, next_line}
+use Rattle.md_events.specs.Exact.Rows.{AfterCode, Row}
+use Rattle.proof_exact_pieces.proofs.OnLine.{LineIn, OnLine}
 use Rattle.proof_exact.proofs.Tails.{last_ending}
 use Rattle.proof_exact_lines.specs.Unlisted.{without_lists}
 use Rattle.proof_exact.proofs.RowRoles.{row_role}

@@ -10,10 +10,10 @@ use Rattle.md_engine.specs.declared.tokenizer.held_leaf.OpenText.{OpenText}
 use Rattle.md_meaning.specs.Rest.{Rest, is_blank}
 use Rattle.md_meaning.specs.State.{Leaf, NoLeaf, OpenCode, OpenFence, OpenHtml, OpenParagraph, OpenTable}
 use Rattle.md_events.specs.Events.Places.{past_text}
-use Rattle.md_exact.specs.Blocks.{is_continued, tail}
-use Rattle.md_exact.specs.Places.{ending}
-use Rattle.md_exact.specs.Rows.{AfterCode, Blank, Delimiter, First, FirstText, Further, FurtherText, Head, Role, Row}
-use Rattle.md_exact.specs.Rows.{Underline}
+use Rattle.md_events.specs.Exact.Blocks.{is_continued, tail}
+use Rattle.md_events.specs.Exact.Places.{ending}
+use Rattle.md_events.specs.Exact.Rows.{AfterCode, Blank, Delimiter, First, FirstText, Further, FurtherText, Head, Role, Row}
+use Rattle.md_events.specs.Exact.Rows.{Underline}
 use Rattle.proof_frame.specs.HeldLeaf.{kind_of_leaf, may_continue, takes_lazy}
 use Rattle.proof_frame.specs.LeafName.{CodeFurther, LeafName}
 use Rattle.proof_frame.specs.RestLine.{rest_line}

@@ -20,9 +20,9 @@ use Rattle.md_registry.specs.Registry.{proceeds_at, opens_at}
 use Rattle.md_registry.proofs.RegistryContainers.{proceeds-agrees, opens-agrees}
 use Rattle.proof_rows.specs.Rows.{Front, continued_prefixes, in_front, no_front, opened_prefixes}
 use Rattle.proof_rows.specs.Valid.{containers_of}
-use Rattle.md_exact.specs.Places.{TextLine}
-use Rattle.md_exact.specs.Prefixes.{following_all, further_prefix, further_prefixes, taken_prefixes, opened}
-use Rattle.md_exact.proofs.OnLine.{LineIn, OnLine}
+use Rattle.md_events.specs.Exact.Places.{TextLine}
+use Rattle.md_events.specs.Exact.Prefixes.{following_all, further_prefix, further_prefixes, taken_prefixes, opened}
+use Rattle.proof_exact_pieces.proofs.OnLine.{LineIn, OnLine}
 use Rattle.proof_exact_lines.specs.Unlisted.{plain_begin, plain_begins}
 use Rattle.proof_rows.proofs.ContainersSame.{proceeds-same, opens-same}
 

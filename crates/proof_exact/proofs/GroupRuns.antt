@@ -4,9 +4,9 @@ use Rattle.std.specs.Prelude.{◌&&◌, ◌||◌, not, if◌then◌else◌}
 use Rattle.md_engine.specs.declared.configuration.ParseOptions.{ParseOptions}
 use Rattle.md_meaning.specs.Rest.{Rest}
 use Rattle.md_meaning.specs.State.{Leaf, NoLeaf, OpenCode, OpenFence, OpenHtml, OpenParagraph, OpenTable}
-use Rattle.md_exact.specs.Blocks.{is_continued, grouped, onto}
-use Rattle.md_exact.specs.Rows as exact
-use Rattle.md_exact.specs.Rows.{AfterCode, First, FirstText, Further, FurtherText, Head}
+use Rattle.md_events.specs.Exact.Blocks.{is_continued, grouped, onto}
+use Rattle.md_events.specs.Exact.Rows as exact
+use Rattle.md_events.specs.Exact.Rows.{AfterCode, First, FirstText, Further, FurtherText, Head}
 use Rattle.proof_frame.specs.HeldLeaf.{takes_lazy}
 use Rattle.proof_frame.specs.LeafName.{LeafName}
 use Rattle.proof_frame.specs.Row.{BlankRow, LeafRow, Row, RowKind, TextRow}

@@ -3,10 +3,10 @@ use Rattle.std.proofs.Common.{◌≡◌, ℕ, true, false, List, [], ◌∷◌, 
 use Rattle.md_engine.specs.declared.configuration.ParseOptions.{ParseOptions}
 use Rattle.md_engine.specs.declared.event.Event.{Event}
 use Rattle.md_engine.specs.declared.event.Name.TheVariants as n
-use Rattle.md_exact.specs.Blocks.{events_by, tail, bare_events}
-use Rattle.md_exact.specs.Leaves as lines
-use Rattle.md_exact.specs.Leaves.{content_line}
-use Rattle.md_exact.specs.Rows.{Role, Row, First}
+use Rattle.md_events.specs.Exact.Blocks.{events_by, tail, bare_events}
+use Rattle.md_events.specs.Exact.Leaves as lines
+use Rattle.md_events.specs.Exact.Leaves.{content_line}
+use Rattle.md_events.specs.Exact.Rows.{Role, Row, First}
 use Rattle.proof_frame.specs.LeafName.{CodeFurther, HeadingAtx, LeafName}
 use Rattle.proof_frame.specs.Row.{BlankRow, LeafRow, Row as FrameRow, RowKind, TextRow, blank_line}
 use Rattle.md_registry.specs.Registry.{leaf}

@@ -6,8 +6,8 @@ use Rattle.md_engine.specs.declared.configuration.ParseOptions.{ParseOptions}
 use Rattle.md_engine.specs.declared.tokenizer.held_leaf.HeldLeaf.{HeldLeaf}
 use Rattle.md_engine.specs.declared.tokenizer.held_leaf.HeldLeaf.TheVariants as held_leaf
 use Rattle.md_engine.specs.declared.tokenizer.held_leaf.OpenText.{OpenText}
-use Rattle.md_exact.specs.Blocks.{is_continued as role_continues, grouped, onto}
-use Rattle.md_exact.specs.Rows as exact
+use Rattle.md_events.specs.Exact.Blocks.{is_continued as role_continues, grouped, onto}
+use Rattle.md_events.specs.Exact.Rows as exact
 use Rattle.proof_frame.specs.HeldLeaf.{may_continue, takes_lazy}
 use Rattle.proof_frame.specs.LeafName.{CodeFurther, Fence, FenceFurther, GfmTable, HeadingSetext, HtmlFurther, LeafName}
 use Rattle.proof_frame.specs.Row.{BlankRow, LeafRow, Row, RowKind, TextRow, any_framed, is_framed}

@@ -18,8 +18,8 @@ use Rattle.md_meaning.specs.Html.{HtmlKind, html_ends}
 use Rattle.md_meaning.specs.Rest.{indent, is_blank, trim_start}
 use Rattle.md_meaning.specs.State.{kept}
 use Rattle.proof_leaf_laws.proofs.GfmTable.Span.{table-begins}
-use Rattle.md_exact.specs.Blocks.{events_by, tail}
-use Rattle.md_exact.specs.Rows.{Delimiter, Role, Row}
+use Rattle.md_events.specs.Exact.Blocks.{events_by, tail}
+use Rattle.md_events.specs.Exact.Rows.{Delimiter, Role, Row}
 use Rattle.proof_frame.specs.LeafName.{CodeFurther, CodeIndented, Fence, FenceFurther, GfmTable, HeadingSetext}
 use Rattle.proof_frame.specs.LeafName.{HtmlFlow, HtmlFurther, LeafName}
 use Rattle.proof_frame.specs.Row.{LeafRow, Row as FrameRow, any_framed, ending_of, last_row, span_after, span_by}

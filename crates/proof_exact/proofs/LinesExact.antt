@@ -9,9 +9,9 @@ use Rattle.md_meaning.specs.Step.{spot_of}
 use Rattle.md_meaning.specs.Texts.{split_lines}
 use Rattle.md_meaning.specs.Tree.{End}
 use Rattle.md_events.proofs.PlacesLemmas.{Placed}
-use Rattle.md_exact.specs.Blocks.{grouped}
-use Rattle.md_exact.specs.Places.{lines_from}
-use Rattle.md_exact.specs.Rows.{rows_of as exact_rows}
+use Rattle.md_events.specs.Exact.Blocks.{grouped}
+use Rattle.md_events.specs.Exact.Places.{lines_from}
+use Rattle.md_events.specs.Exact.Rows.{rows_of as exact_rows}
 use Rattle.proof_leaf_laws.proofs.FullLines.{IsLines}
 use Rattle.proof_exact_lines.proofs.Front.{begin}
 use Rattle.proof_exact_lines.specs.Unlisted.{unlisted_groups}

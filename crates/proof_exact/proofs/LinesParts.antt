@@ -7,9 +7,9 @@ use Rattle.md_meaning.specs.Rest.{Rest}
 use Rattle.md_meaning.specs.State.{At, Path}
 use Rattle.md_meaning.specs.Step.{spot_of, step, steps}
 use Rattle.md_meaning.specs.Tree.{Blocks, End, More}
-use Rattle.md_exact.specs.Blocks.{group_events, grouped}
-use Rattle.md_exact.specs.Places.{TextLine, whole}
-use Rattle.md_exact.specs.Rows.{Row, rows_of}
+use Rattle.md_events.specs.Exact.Blocks.{group_events, grouped}
+use Rattle.md_events.specs.Exact.Places.{TextLine, whole}
+use Rattle.md_events.specs.Exact.Rows.{Row, rows_of}
 use Rattle.proof_exact.specs.Parts.{IsCut, NoItemLast, lines_events, nothing_open}
 use Rattle.proof_exact.proofs.Appended.{rows-apart, rows-append}
 use Rattle.proof_exact.proofs.PartGroups.{grouped-append}

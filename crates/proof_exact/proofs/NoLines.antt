@@ -14,8 +14,8 @@ use Rattle.md_events.proofs.FeedLines.{feed-none}
 use Rattle.proof_leaf_laws.specs.Front.{body_point}
 use Rattle.proof_leaf_laws.proofs.FullLines.{IsLines, LastLine, NextLine, NoLines, ending-is, full-lines}
 use Rattle.md_registry.specs.Registry.{asked_first, bars_containers}
-use Rattle.md_exact.specs.Blocks.{front_size, text_lines}
-use Rattle.md_exact.specs.Places.{TextLine, line_at, lines_from}
+use Rattle.md_events.specs.Exact.Blocks.{front_size, text_lines}
+use Rattle.md_events.specs.Exact.Places.{TextLine, line_at, lines_from}
 use Rattle.proof_rows.specs.BlockList.{tabled_groups}
 use Rattle.proof_rows.specs.Rows.{groups, held_at, rows_at}
 use Rattle.proof_rows.specs.TextRows.{text_cells, text_rows, text_setting}

@@ -12,7 +12,7 @@ use Rattle.md_meaning.specs.Rest.{Rest}
 use Rattle.md_meaning.specs.State.{At, Container, Leaf, NoLeaf, OpenCode, OpenFence, OpenHtml, OpenParagraph, OpenTable}
 use Rattle.md_meaning.specs.State.{Path, Within, spot}
 use Rattle.md_meaning.specs.Step.{is_concrete, is_open_text}
-use Rattle.md_exact.specs.Prefixes.{following_all, containers, taken_prefixes, new_containers, opened}
+use Rattle.md_events.specs.Exact.Prefixes.{following_all, containers, taken_prefixes, new_containers, opened}
 use Rattle.proof_frame.specs.Change.{is_none, others_of}
 use Rattle.proof_frame.specs.HeldLeaf.{kind_of_leaf}
 use Rattle.proof_rows.specs.Fronted.{Prefixed, no_prefix, one_more, prefixes_after, prefixes_new, prefixes_on}

@@ -20,7 +20,7 @@ use Rattle.md_meaning.specs.Lines.{full_lines_of}
 use Rattle.md_meaning.specs.State.{At}
 use Rattle.md_meaning.specs.Step.{spot_of}
 use Rattle.md_meaning.specs.Tree.{End, Item, More, Paragraph}
-use Rattle.md_exact.specs.Places.{TextLine}
+use Rattle.md_events.specs.Exact.Places.{TextLine}
 use Rattle.proof_exact.specs.Parts.{IsCut, nothing_open, open_after, placed_lines}
 
 abbrev lines : List ℕ → List TextLine

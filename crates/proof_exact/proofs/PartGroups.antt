@@ -1,8 +1,8 @@
 -- The leaves of lines one after the other: those of the first lines, and then those of the others, where the first of
 -- these continues no leaf.
 use Rattle.std.proofs.Common.{◌≡◌, Bool, true, false, cond, List, [], ◌∷◌, ◌++◌, refl, ap, ◌∙◌}
-use Rattle.md_exact.specs.Blocks.{is_continued, grouped, onto}
-use Rattle.md_exact.specs.Rows.{Row, next_role}
+use Rattle.md_events.specs.Exact.Blocks.{is_continued, grouped, onto}
+use Rattle.md_events.specs.Exact.Rows.{Row, next_role}
 
 -- a line before a leaf that it is not one with
 onto-group : (x y : Row) (ys : List Row) (gs : List (List Row)) → is_continued y.role ≡ false →

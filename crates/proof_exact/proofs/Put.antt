@@ -8,10 +8,10 @@ use Rattle.md_meaning.specs.Rest.{Rest, is_blank}
 use Rattle.md_meaning.specs.State.{Leaf, OpenCode, Path}
 use Rattle.md_meaning.specs.Step.{step}
 use Rattle.md_meaning.specs.Tree.{Line}
-use Rattle.md_exact.specs.Blocks.{is_continued, grouped}
-use Rattle.md_exact.specs.Places.{TextLine, whole}
-use Rattle.md_exact.specs.Rows.{AfterCode, Blank, Delimiter, First, FirstText, Further, FurtherText, Head, Role, Row}
-use Rattle.md_exact.specs.Rows.{Underline, fresh_role, next_role, role_before, role_on, row_of, rows_of}
+use Rattle.md_events.specs.Exact.Blocks.{is_continued, grouped}
+use Rattle.md_events.specs.Exact.Places.{TextLine, whole}
+use Rattle.md_events.specs.Exact.Rows.{AfterCode, Blank, Delimiter, First, FirstText, Further, FurtherText, Head, Role, Row}
+use Rattle.md_events.specs.Exact.Rows.{Underline, fresh_role, next_role, role_before, role_on, row_of, rows_of}
 use Rattle.proof_exact_lines.proofs.LeafLast.{fresh-cases}
 use Rattle.proof_exact.proofs.GroupRuns.{after_run, grouped-run, run}
 

@@ -7,10 +7,10 @@ use Rattle.md_engine.specs.declared.event.Point.{Point}
 use Rattle.md_events.specs.Events.Nested.{around}
 use Rattle.proof_frame.specs.Row.{Row as FrameRow, ending_events, last_row}
 use Rattle.proof_rows.specs.BlockList.{heading_unread, lines_unread, unread_lines}
-use Rattle.md_exact.specs.Leaves.{last_end, leaf, onto_next, runs_line}
-use Rattle.md_exact.specs.Places.{is_same, line_end}
-use Rattle.md_exact.specs.Rows.{Row}
-use Rattle.md_exact.specs.Texts.{remaining, text_span}
+use Rattle.md_events.specs.Exact.Leaves.{last_end, leaf, onto_next, runs_line}
+use Rattle.md_events.specs.Exact.Places.{is_same, line_end}
+use Rattle.md_events.specs.Exact.Rows.{Row}
+use Rattle.md_events.specs.Exact.Texts.{remaining, text_span}
 use Rattle.proof_exact_lines.proofs.Spans.{SameLine}
 use Rattle.proof_exact_lines.proofs.TextLines.{AreTexts, first-line, last-end, last-line, last_of, text-lines}
 

@@ -19,15 +19,15 @@ use Rattle.md_meaning.specs.Step.{is_concrete, is_open_text, step, with_lazy}
 use Rattle.md_events.proofs.FeedLines.{Stops, byte_cells, cell, columns_more, spread, tab_cells, tab_end}
 use Rattle.md_events.specs.Events.Places.{past_byte}
 use Rattle.md_events.proofs.RestCells.{rest_cells}
-use Rattle.md_exact.specs.Places.{TextLine, whole}
-use Rattle.md_exact.specs.Blocks.{is_continued}
-use Rattle.md_exact.specs.Prefixes.{begins, following_all, containers, further_prefixes, taken_prefixes, new_containers}
-use Rattle.md_exact.specs.Prefixes.{opened}
-use Rattle.md_exact.specs.Rows as exact
-use Rattle.md_exact.specs.Rows.{Blank, Delimiter, FirstText, Further, FurtherText, Role, first_or, next_role}
-use Rattle.md_exact.specs.Rows.{role_before, role_on, row_of}
-use Rattle.md_exact.proofs.OnLine.{LineIn, OnLine, whole-on}
-use Rattle.md_exact.proofs.PlaceLemmas.{line_start}
+use Rattle.md_events.specs.Exact.Places.{TextLine, whole}
+use Rattle.md_events.specs.Exact.Blocks.{is_continued}
+use Rattle.md_events.specs.Exact.Prefixes.{begins, following_all, containers, further_prefixes, taken_prefixes, new_containers}
+use Rattle.md_events.specs.Exact.Prefixes.{opened}
+use Rattle.md_events.specs.Exact.Rows as exact
+use Rattle.md_events.specs.Exact.Rows.{Blank, Delimiter, FirstText, Further, FurtherText, Role, first_or, next_role}
+use Rattle.md_events.specs.Exact.Rows.{role_before, role_on, row_of}
+use Rattle.proof_exact_pieces.proofs.OnLine.{LineIn, OnLine, whole-on}
+use Rattle.proof_exact_pieces.proofs.PlaceLemmas.{line_start}
 use Rattle.proof_frame.specs.Change.{interrupts, is_none, others_of}
 use Rattle.proof_frame.proofs.RegistryRead.{AreRead}
 use Rattle.proof_rows.specs.Rows.{Front, Held, continued_prefixes, held_at, is_inside, new_after, no_front}

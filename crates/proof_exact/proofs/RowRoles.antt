@@ -9,8 +9,8 @@ use Rattle.md_meaning.specs.Rest.{Rest, is_blank}
 use Rattle.md_meaning.specs.State.{Leaf, NoLeaf, OpenCode, OpenFence, OpenHtml, OpenParagraph, OpenTable}
 use Rattle.md_meaning.specs.Step.{is_open_text}
 use Rattle.md_meaning.specs.Tree.{Line}
-use Rattle.md_exact.specs.Rows.{AfterCode, Blank, Delimiter, First, FirstText, Further, FurtherText, Head, Role}
-use Rattle.md_exact.specs.Rows.{Underline, role_before}
+use Rattle.md_events.specs.Exact.Rows.{AfterCode, Blank, Delimiter, First, FirstText, Further, FurtherText, Head, Role}
+use Rattle.md_events.specs.Exact.Rows.{Underline, role_before}
 use Rattle.proof_frame.specs.HeldLeaf.{kind_of_leaf, may_continue, takes_lazy}
 use Rattle.proof_frame.specs.LeafName.{CodeFurther, LeafName}
 use Rattle.proof_frame.specs.Row.{BlankRow, LeafRow, Row, RowKind, TextRow, any_framed, is_framed}

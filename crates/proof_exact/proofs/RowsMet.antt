@@ -6,7 +6,7 @@ use Rattle.md_engine.specs.declared.tokenizer.held_leaf.HeldLeaf.{HeldLeaf}
 use Rattle.md_meaning.specs.Rest.{Rest}
 use Rattle.md_meaning.specs.State.{Container, Path}
 use Rattle.md_meaning.specs.Step.{step}
-use Rattle.md_exact.specs.Places.{TextLine, whole}
+use Rattle.md_events.specs.Exact.Places.{TextLine, whole}
 use Rattle.proof_frame.specs.Change.{open_following}
 use Rattle.proof_frame.specs.RestLine.{rest_line}
 use Rattle.proof_frame.specs.Row.{Row}

@@ -13,13 +13,13 @@ use Rattle.md_meaning.specs.Step.{step, with_lazy}
 use Rattle.md_meaning.specs.Tree.{Blocks, End, More}
 use Rattle.md_events.specs.Events.Nested.{enter}
 use Rattle.md_engine.specs.declared.event.Name.TheVariants as n
-use Rattle.md_exact.specs.Prefixes.{item_prefix, list_name}
-use Rattle.md_exact.specs.Places.{TextLine, line_end, place, whole}
-use Rattle.md_exact.specs.Prefixes.{begin, begins, following_all, blocks_before, containers, end_in_item}
-use Rattle.md_exact.specs.Prefixes.{further_prefixes}
-use Rattle.md_exact.specs.Prefixes.{taken_prefixes, new_containers}
-use Rattle.md_exact.specs.Rows.{FurtherText, Row, ends_from, next_role, next_stays, role_before, role_on, row_of}
-use Rattle.md_exact.specs.Rows.{rows_of}
+use Rattle.md_events.specs.Exact.Prefixes.{item_prefix, list_name}
+use Rattle.md_events.specs.Exact.Places.{TextLine, line_end, place, whole}
+use Rattle.md_events.specs.Exact.Prefixes.{begin, begins, following_all, blocks_before, containers, end_in_item}
+use Rattle.md_events.specs.Exact.Prefixes.{further_prefixes}
+use Rattle.md_events.specs.Exact.Prefixes.{taken_prefixes, new_containers}
+use Rattle.md_events.specs.Exact.Rows.{FurtherText, Row, ends_from, next_role, next_stays, role_before, role_on, row_of}
+use Rattle.md_events.specs.Exact.Rows.{rows_of}
 use Rattle.proof_exact.specs.Parts.{NoItemLast}
 use Rattle.proof_exact.proofs.Moved.{moved, step-moved}
 use Rattle.proof_exact.specs.Parts.{joined}

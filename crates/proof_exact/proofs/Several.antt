@@ -22,10 +22,10 @@ use Rattle.md_meaning.specs.Rest.{Rest, cut_tab, is_blank, line_of}
 use Rattle.md_meaning.specs.State.{Container, OpenHtml, Opening}
 use Rattle.md_meaning.specs.Tree.{Html, Line}
 use Rattle.md_events.specs.Events.Spelled.{role}
-use Rattle.md_exact.specs.Blocks.{events_by, leaf_events, tail}
-use Rattle.md_exact.specs.Leaves.{content_line, fence, fenced_line, leaf as leaf_lines}
-use Rattle.md_exact.specs.Places.{TextLine}
-use Rattle.md_exact.specs.Rows.{AfterCode, Role, Row}
+use Rattle.md_events.specs.Exact.Blocks.{events_by, leaf_events, tail}
+use Rattle.md_events.specs.Exact.Leaves.{content_line, fence, fenced_line, leaf as leaf_lines}
+use Rattle.md_events.specs.Exact.Places.{TextLine}
+use Rattle.md_events.specs.Exact.Rows.{AfterCode, Role, Row}
 use Rattle.proof_frame.specs.Change.{ends_of}
 use Rattle.proof_frame.specs.LeafName.{CodeFurther, CodeIndented, Fence, FenceFurther, HtmlFlow, HtmlFurther, LeafName}
 use Rattle.proof_frame.specs.Row.{LeafRow, Row as FrameRow, any_framed, ending_events, ending_of, is_framed, last_row}

@@ -3,8 +3,8 @@ use Rattle.std.proofs.Common.{◌≡◌, ◌||◌, List, [], ◌∷◌, refl, if
 use Rattle.md_engine.specs.declared.event.Name.{Name}
 use Rattle.md_engine.specs.declared.event.Name.TheVariants as n
 use Rattle.md_meaning.specs.Bytes.{is_end}
-use Rattle.md_exact.specs.Blocks.{tail}
-use Rattle.md_exact.specs.Rows.{Row, is_blank_role}
+use Rattle.md_events.specs.Exact.Blocks.{tail}
+use Rattle.md_events.specs.Exact.Rows.{Row, is_blank_role}
 use Rattle.proof_exact_lines.proofs.TextLines.{last_of}
 
 -- the ending of a line after which a leaf ends

@@ -15,10 +15,10 @@ use Rattle.md_meaning.specs.State.{closed, spot, texts}
 use Rattle.md_meaning.specs.Grouped.{grouped as grouped_blocks}
 use Rattle.md_meaning.specs.Step.{all_continued, all_continued_by, spot_of, step, steps, text_line}
 use Rattle.md_meaning.specs.Tree.{Blocks, End}
-use Rattle.md_exact.specs.Blocks.{group_events, grouped}
-use Rattle.md_exact.specs.Places.{TextLine, line_at, lines_from, whole}
-use Rattle.md_exact.specs.Prefixes.{containers}
-use Rattle.md_exact.specs.Rows.{Row, row_of, rows_of}
+use Rattle.md_events.specs.Exact.Blocks.{group_events, grouped}
+use Rattle.md_events.specs.Exact.Places.{TextLine, line_at, lines_from, whole}
+use Rattle.md_events.specs.Exact.Prefixes.{containers}
+use Rattle.md_events.specs.Exact.Rows.{Row, row_of, rows_of}
 use Rattle.proof_exact_lines.specs.Last.{HasLine, last_in}
 use Rattle.proof_exact.specs.Parts.{BeginsEmpty, EndsLine, IsTextCut, NoItemLast, ReadsOnAfterText, lines_events}
 use Rattle.proof_exact.specs.Parts.{empty_line, lines_blocks, nothing_open, part_events, placed_lines}

@@ -12,11 +12,11 @@ use Rattle.md_link_definitions.specs.OpenText.{open_text}
 use Rattle.md_link_definitions.specs.Progress.{progress_of, step}
 use Rattle.md_meaning.specs.Rest.{Rest, is_blank, trim_start}
 use Rattle.md_meaning.specs.State.{kept}
-use Rattle.md_exact.specs.Blocks.{events_by, is_continued, tail}
-use Rattle.md_exact.specs.Leaves.{leaf as leaf_lines, runs_line}
-use Rattle.md_exact.specs.Places.{is_same, line_end}
-use Rattle.md_exact.specs.Rows.{Delimiter, FirstText, FurtherText, Head, Role, Row, Underline, next_role}
-use Rattle.md_exact.specs.Texts.{is_underline, text}
+use Rattle.md_events.specs.Exact.Blocks.{events_by, is_continued, tail}
+use Rattle.md_events.specs.Exact.Leaves.{leaf as leaf_lines, runs_line}
+use Rattle.md_events.specs.Exact.Places.{is_same, line_end}
+use Rattle.md_events.specs.Exact.Rows.{Delimiter, FirstText, FurtherText, Head, Role, Row, Underline, next_role}
+use Rattle.md_events.specs.Exact.Texts.{is_underline, text}
 use Rattle.proof_frame.specs.LeafName.{CodeFurther, HeadingSetext, LeafName}
 use Rattle.proof_frame.specs.Row.{LeafRow, Row as FrameRow, RowKind, TextRow, ending_of, last_row}
 use Rattle.md_registry.specs.Registry.{leaf}

@@ -21,9 +21,9 @@ use Rattle.md_events.proofs.PlacesLemmas.{Placed, placed-text}
 use Rattle.md_events.proofs.ReachedLemmas.{placed-next}
 use Rattle.proof_leaf_laws.specs.Front.{body_point, ending_of}
 use Rattle.proof_leaf_laws.proofs.FullLines.{IsLines, LastLine, NextLine, NoLines, ending-is, full-lines, last-ending}
-use Rattle.md_exact.specs.Blocks.{front_size, text_lines}
-use Rattle.md_exact.specs.Places.{TextLine, line_at, lines_from}
-use Rattle.md_exact.proofs.OnLine.{past-line}
+use Rattle.md_events.specs.Exact.Blocks.{front_size, text_lines}
+use Rattle.md_events.specs.Exact.Places.{TextLine, line_at, lines_from}
+use Rattle.proof_exact_pieces.proofs.OnLine.{past-line}
 use Rattle.proof_exact_lines.proofs.Front.{begin}
 use Rattle.proof_exact_lines.proofs.FrontBody.{Body, Ends, Proceeds, front-body}
 use Rattle.proof_exact.proofs.RowsMet.{HaveBytes}

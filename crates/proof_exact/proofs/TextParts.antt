@@ -9,7 +9,7 @@ use Rattle.md_meaning.specs.Bytes.{is_end}
 use Rattle.md_meaning.specs.Lines.{begins_with, ends_line, full_lines_of, is_ending, without_ending}
 use Rattle.md_meaning.proofs.LinesLemmas.{without_ending-cons}
 use Rattle.std.proofs.lemmas.List.Sums.{take_while-cons}
-use Rattle.md_exact.specs.Places.{TextLine, line_at, lines_from}
+use Rattle.md_events.specs.Exact.Places.{TextLine, line_at, lines_from}
 use Rattle.std.specs.Prelude.{Option, Some, None}
 use Rattle.md_meaning.specs.Containers.{Taken, opens}
 use Rattle.md_meaning.specs.Rest.{Rest}
@@ -20,9 +20,9 @@ use Rattle.md_meaning.specs.Step.{all_continued, all_continued_by, fresh_line, s
 use Rattle.md_meaning.specs.Tree.{Blocks, End}
 use Rattle.md_meaning.proofs.ContainerLemmas.{opens-leaves}
 use Rattle.md_meaning.proofs.TakenLemmas.{LeavesFewer}
-use Rattle.md_exact.specs.Places.{line_end, place}
-use Rattle.md_exact.specs.Prefixes.{containers}
-use Rattle.md_exact.specs.Rows.{ends_from}
+use Rattle.md_events.specs.Exact.Places.{line_end, place}
+use Rattle.md_events.specs.Exact.Prefixes.{containers}
+use Rattle.md_events.specs.Exact.Rows.{ends_from}
 use Rattle.proof_exact.specs.Parts.{EndsLine, IsCut, NoItemLast, PartsOneByOne, ReadsOn, open_after, lines_events}
 use Rattle.proof_exact.specs.Parts.{nothing_open, part_events, placed_lines}
 use Rattle.proof_exact.proofs.LinesParts.{lines-parts}

@@ -11,7 +11,7 @@ use Rattle.md_meaning.specs.State.{At, Path, closed}
 use Rattle.md_meaning.specs.Step.{spot_of, steps}
 use Rattle.md_meaning.specs.Tree.{Block, Blocks, End}
 use Rattle.md_meaning.specs.Tree.{Item, ListOf, More}
-use Rattle.md_exact.specs.Places.{TextLine, whole}
+use Rattle.md_events.specs.Exact.Places.{TextLine, whole}
 use Rattle.proof_exact.specs.Parts.{IsCut, NoItemLast, nothing_open, open_after}
 use Rattle.proof_exact.proofs.LinesParts.{joined-end, steps-append}
 use Rattle.proof_exact.proofs.Moved.{closed-moved, steps-moved}

@@ -7,9 +7,9 @@ use Rattle.md_engine.specs.declared.event.Name.TheVariants as n
 use Rattle.md_meaning.specs.Lines.{full_lines_of}
 use Rattle.md_meaning.specs.Preamble.{first_column, has_mark, without_mark}
 use Rattle.md_meaning.specs.Texts.{first_byte}
-use Rattle.md_exact.specs.Blocks.{exact, front_line, front_row, front_size, mark_events, tail, text_lines}
-use Rattle.md_exact.specs.Leaves.{leaf}
-use Rattle.md_exact.specs.Places.{lines_from}
+use Rattle.md_events.specs.Exact.Blocks.{exact, front_line, front_row, front_size, mark_events, tail, text_lines}
+use Rattle.md_events.specs.Exact.Leaves.{leaf}
+use Rattle.md_events.specs.Exact.Places.{lines_from}
 use Rattle.proof_exact.specs.Parts.{events_from, lines_events}
 
 after-mark : (text : List ℕ) → without_mark text ≡ drop (first_column text) text

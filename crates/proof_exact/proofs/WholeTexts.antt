@@ -9,10 +9,10 @@ use Rattle.proof_frame.specs.Row.{Row as FrameRow}
 use Rattle.proof_leaf_laws.proofs.Frontmatter.Found.{first-here, first-later}
 use Rattle.proof_rows.specs.BlockList.{heading_unread, lines_unread, text_unread, turned_unread}
 use Rattle.proof_rows.proofs.GroupLines.{AreLines}
-use Rattle.md_exact.specs.Leaves.{leaf, runs_line}
-use Rattle.md_exact.specs.Rows.{Row}
-use Rattle.md_exact.specs.Texts as Texts
-use Rattle.md_exact.specs.Texts.{is_underline, remaining, text_events}
+use Rattle.md_events.specs.Exact.Leaves.{leaf, runs_line}
+use Rattle.md_events.specs.Exact.Rows.{Row}
+use Rattle.md_events.specs.Exact.Texts as Texts
+use Rattle.md_events.specs.Exact.Texts.{is_underline, remaining, text_events}
 use Rattle.proof_exact_lines.proofs.Spans.{SameLine}
 use Rattle.proof_exact.proofs.CutTexts.{AreAt, IsKept, most, texts-cut}
 use Rattle.proof_exact.proofs.Remaining.{IsText, heading-is, paragraph-is}

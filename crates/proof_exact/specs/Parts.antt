@@ -9,10 +9,10 @@ use Rattle.md_meaning.specs.Outline.{outline}
 use Rattle.md_meaning.specs.State.{At, OpenParagraph, ParagraphLine, Path, closed}
 use Rattle.md_meaning.specs.Step.{spot_of, steps}
 use Rattle.md_meaning.specs.Tree.{Blocks, End, More}
-use Rattle.md_exact.specs.Blocks.{group_events, grouped as row_groups}
-use Rattle.md_exact.specs.Places.{TextLine, line_at, lines_from, whole}
-use Rattle.md_exact.specs.Prefixes.{end_in_item}
-use Rattle.md_exact.specs.Rows.{rows_of}
+use Rattle.md_events.specs.Exact.Blocks.{group_events, grouped as row_groups}
+use Rattle.md_events.specs.Exact.Places.{TextLine, line_at, lines_from, whole}
+use Rattle.md_events.specs.Exact.Prefixes.{end_in_item}
+use Rattle.md_events.specs.Exact.Rows.{rows_of}
 
 -- nothing is open, and nothing was read
 abbrev pub nothing_open : Path

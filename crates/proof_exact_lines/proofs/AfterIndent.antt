@@ -6,7 +6,7 @@ use Rattle.std.specs.List.{prefix_len}
 use Rattle.md_meaning.specs.Rest.{Rest, after_indent, indent, is_white, lose, tab_columns, white_columns}
 use Rattle.md_events.specs.Events.Places.{column_past, columns_from}
 use Rattle.md_events.proofs.RestLines.{count-none, count-one}
-use Rattle.md_exact.specs.Places.{past}
+use Rattle.md_events.specs.Exact.Places.{past}
 use Rattle.proof_exact_lines.proofs.BeginsAt.{rest_at}
 
 abbrev rest : ℕ → ℕ → List ℕ → Rest

@@ -4,9 +4,9 @@ use Rattle.std.proofs.Common.{ap, ◌∙◌, subst, arith, append_assoc}
 use Rattle.std.proofs.lemmas.List.{drop-drop, length-append, length-drop, length-map}
 use Rattle.md_meaning.specs.Rest.{Rest, trim_start}
 use Rattle.md_events.specs.Events.Places.{column_past, columns_from}
-use Rattle.md_exact.specs.Places.{past}
-use Rattle.md_exact.specs.Rows.{Row}
-use Rattle.md_exact.specs.Texts.{ahead, back, left, lines_left, on_first}
+use Rattle.md_events.specs.Exact.Places.{past}
+use Rattle.md_events.specs.Exact.Rows.{Row}
+use Rattle.md_events.specs.Exact.Texts.{ahead, back, left, lines_left, on_first}
 
 -- Bytes after others.
 

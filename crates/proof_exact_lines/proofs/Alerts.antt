@@ -36,10 +36,10 @@ use Rattle.md_events.proofs.InlineLemmas.{past-index}
 use Rattle.md_events.proofs.RestCells.{HasIndent, following-no_ending, indent-taken, lose-no_ending, past_rest}
 use Rattle.md_events.proofs.RestCells.{rest_cells}
 use Rattle.md_events.proofs.RestLines.{bare-spread}
-use Rattle.md_exact.specs.Places.{TextLine, past}
-use Rattle.md_exact.specs.Prefixes.{alert_part, quote_prefix}
-use Rattle.md_exact.proofs.OnLine.{LineIn, OnLine, indent-on, past-on}
-use Rattle.md_exact.proofs.PieceLemmas.{part-on, piece-on, white-on}
+use Rattle.md_events.specs.Exact.Places.{TextLine, past}
+use Rattle.md_events.specs.Exact.Prefixes.{alert_part, quote_prefix}
+use Rattle.proof_exact_pieces.proofs.OnLine.{LineIn, OnLine, indent-on, past-on}
+use Rattle.proof_exact_pieces.proofs.PieceLemmas.{part-on, piece-on, white-on}
 use Rattle.proof_exact_lines.proofs.Quotes.{HasFront, has-front}
 
 abbrev rest : ℕ → ℕ → List ℕ → Rest

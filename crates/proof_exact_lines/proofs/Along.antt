@@ -3,7 +3,7 @@ use Rattle.std.proofs.Common.{◌≡◌, ℕ, zero, suc, true, false, List, [], 
 use Rattle.std.proofs.Common.{arith, append-nil, inl, inr, ◌≤◌}
 use Rattle.std.proofs.lemmas.Bool.{eqb-true}
 use Rattle.md_events.specs.Ahead.{point_after}
-use Rattle.md_exact.specs.Leaves.{start}
+use Rattle.md_events.specs.Exact.Leaves.{start}
 use Rattle.std.specs.Prelude.{◌==◌}
 use Rattle.md_engine.specs.declared.event.Point.{Point}
 use Rattle.md_engine.specs.Meaning.{Cell}
@@ -17,10 +17,10 @@ use Rattle.md_link_definitions.proofs.SpreadLines.{whole-append}
 use Rattle.md_events.proofs.FeedLines.{NoFeed, Stops, next_column, no_feed-spread, past_text-whole, spread}
 use Rattle.md_events.proofs.FeedLines.{tab_cells, tab_end}
 use Rattle.md_events.proofs.RestCells.{Cut, cells_by, past_cut, rest-end, rest_cells}
-use Rattle.md_exact.specs.Places.{next_line, place}
-use Rattle.md_exact.specs.Rows.{Row}
-use Rattle.md_exact.specs.Texts.{lines_left}
-use Rattle.md_exact.proofs.OnLine.{LineIn, OnLine, place-on}
+use Rattle.md_events.specs.Exact.Places.{next_line, place}
+use Rattle.md_events.specs.Exact.Rows.{Row}
+use Rattle.md_events.specs.Exact.Texts.{lines_left}
+use Rattle.proof_exact_pieces.proofs.OnLine.{LineIn, OnLine, place-on}
 use Rattle.proof_content_laws.proofs.Defined.Along.{Turn, no_line}
 
 -- the rest of a row begins at a point of the text

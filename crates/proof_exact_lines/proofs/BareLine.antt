@@ -4,9 +4,9 @@ use Rattle.md_engine.specs.declared.event.Point.{Point}
 use Rattle.md_meaning.specs.Rest.{trim_start}
 use Rattle.md_meaning.specs.Texts.{first_byte}
 use Rattle.md_events.specs.Events.Nested.{around}
-use Rattle.md_exact.specs.Leaves as lines
-use Rattle.md_exact.specs.Leaves.{runs_line}
-use Rattle.md_exact.specs.Rows.{Row}
+use Rattle.md_events.specs.Exact.Leaves as lines
+use Rattle.md_events.specs.Exact.Leaves.{runs_line}
+use Rattle.md_events.specs.Exact.Rows.{Row}
 use Rattle.proof_frame.specs.LineLeaf.{LineLeaf}
 use Rattle.proof_frame.specs.MarkRuns.{Apart, mark_runs}
 use Rattle.proof_frame.proofs.BareLine.{AreMarks, BareLine}

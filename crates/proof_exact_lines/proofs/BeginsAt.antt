@@ -9,8 +9,8 @@ use Rattle.md_engine.specs.declared.event.Point.{Point}
 use Rattle.md_meaning.specs.Rest.{Rest, cut_tab, tab_columns}
 use Rattle.md_events.specs.Events.Places.{column_past, columns_from, past_byte, past_text}
 use Rattle.md_events.proofs.RestCells.{Cut}
-use Rattle.md_exact.proofs.PlaceLemmas.{before}
-use Rattle.md_exact.specs.Places.{TextLine, line_end, past, place}
+use Rattle.proof_exact_pieces.proofs.PlaceLemmas.{before}
+use Rattle.md_events.specs.Exact.Places.{TextLine, line_end, past, place}
 
 -- the rest of a line as it is in the text, and one without a cut tab
 abbrev pub rest_bytes : Rest → List ℕ

@@ -19,8 +19,8 @@ use Rattle.md_tables.proofs.CellLemmas.{ends_dark, trimmed-dark}
 use Rattle.md_tables.proofs.RowBytes.{cell-whole, front-whole}
 use Rattle.md_tables.proofs.WhiteEnds.{back-blank, blank-first, dark-first, end-is, end-more, end-whole, start-none}
 use Rattle.proof_frame.specs.LineColumns.{part_over}
-use Rattle.md_exact.specs.Leaves.{Inner, cell_content}
-use Rattle.md_exact.specs.Places.{TextLine, past, white}
+use Rattle.md_events.specs.Exact.Leaves.{Inner, cell_content}
+use Rattle.md_events.specs.Exact.Places.{TextLine, past, white}
 use Rattle.proof_exact_lines.proofs.BeginsAt.{rest_bytes}
 use Rattle.proof_exact_lines.proofs.Parts.{IsAfter, Valid, past-following, piece-is, valid-bytes, three-joined}
 use Rattle.proof_exact_lines.proofs.Parts.{white-following}

@@ -16,8 +16,8 @@ use Rattle.md_tables.specs.RowCells.{Cells, Divides, Shut, cell_by, cells_by, ce
 use Rattle.md_tables.specs.RowCells.{past_pipe, pipe_part, white_part}
 use Rattle.proof_frame.specs.LineColumns.{part_over}
 use Rattle.proof_leaf_laws.proofs.GfmTable.RowCells.{EachFits}
-use Rattle.md_exact.specs.Leaves.{Inner, cell_content, cell_len, cells, past_optional}
-use Rattle.md_exact.specs.Places.{TextLine, line_end, part, past, piece, white}
+use Rattle.md_events.specs.Exact.Leaves.{Inner, cell_content, cell_len, cells, past_optional}
+use Rattle.md_events.specs.Exact.Places.{TextLine, line_end, part, past, piece, white}
 use Rattle.proof_exact_lines.proofs.BeginsAt.{begins-place, rest_bytes}
 use Rattle.proof_exact_lines.proofs.Parts.{IsAfter, Valid, piece-end, piece-is, valid-bytes, taken-front}
 use Rattle.proof_exact_lines.proofs.CellContent.{IsInner, content-is, over-white}

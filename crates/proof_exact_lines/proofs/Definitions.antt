@@ -31,14 +31,14 @@ use Rattle.md_events.specs.Look.{first_seen}
 use Rattle.md_events.specs.Spaces.{any_size, ends_line}
 use Rattle.md_events.proofs.FeedLines.{Stops}
 use Rattle.md_events.proofs.RestCells.{indent-length, rest_cells}
-use Rattle.md_exact.specs.Leaves.{first_end, start}
-use Rattle.md_exact.specs.Places.{TextLine, line_end, past, place}
-use Rattle.md_exact.specs.Rows.{Row}
-use Rattle.md_exact.specs.Texts as Texts
-use Rattle.md_exact.specs.Texts.{after_destination, following_gap, after_label, enclosed_part, gap, lines_left, mark}
-use Rattle.md_exact.specs.Texts.{on_first}
-use Rattle.md_exact.proofs.OnLine.{LineIn, OnLine, indent-on}
-use Rattle.md_exact.proofs.PieceLemmas.{same-spaces}
+use Rattle.md_events.specs.Exact.Leaves.{first_end, start}
+use Rattle.md_events.specs.Exact.Places.{TextLine, line_end, past, place}
+use Rattle.md_events.specs.Exact.Rows.{Row}
+use Rattle.md_events.specs.Exact.Texts as Texts
+use Rattle.md_events.specs.Exact.Texts.{after_destination, following_gap, after_label, enclosed_part, gap, lines_left, mark}
+use Rattle.md_events.specs.Exact.Texts.{on_first}
+use Rattle.proof_exact_pieces.proofs.OnLine.{LineIn, OnLine, indent-on}
+use Rattle.proof_exact_pieces.proofs.PieceLemmas.{same-spaces}
 use Rattle.proof_content_laws.proofs.Defined.Along.{Turn, no_line}
 use Rattle.proof_content_laws.proofs.Defined.Gaps.{WhiteOf, white-of}
 use Rattle.proof_content_laws.proofs.Defined.Parts.{DefinitionAre, definition-are}

@@ -32,9 +32,9 @@ use Rattle.md_link_definitions.proofs.LineCells.{mark-split, no_feed-split}
 use Rattle.md_events.specs.Ahead.{begins_white, from_ending, line_bytes, line_cells, point_after}
 use Rattle.md_events.specs.Events.Nested.{around, pair}
 use Rattle.md_events.proofs.FeedLines.{NoFeed, bytes_of, point_after-append}
-use Rattle.md_exact.specs.Rows.{Row}
-use Rattle.md_exact.specs.Texts as Texts
-use Rattle.md_exact.specs.Texts.{after_destination, lines_left}
+use Rattle.md_events.specs.Exact.Rows.{Row}
+use Rattle.md_events.specs.Exact.Texts as Texts
+use Rattle.md_events.specs.Exact.Texts.{after_destination, lines_left}
 use Rattle.proof_content_laws.proofs.Defined.Along.{Turn}
 use Rattle.proof_content_laws.proofs.Defined.Marked.{MarkedOf, marked-of}
 use Rattle.proof_content_laws.proofs.Defined.Takes.{Takes, Walk, walk-whole}

@@ -10,11 +10,11 @@ use Rattle.md_meaning.specs.State.{At, Leaf, Path, spot}
 use Rattle.md_meaning.specs.Step.{spot_of}
 use Rattle.md_meaning.specs.Tree.{End}
 use Rattle.md_containers.specs.Listed.{Place, is_item, listed, listed_from, next_item, outside}
-use Rattle.md_exact.specs.Blocks as blocks
-use Rattle.md_exact.specs.Blocks.{grouped, tail}
-use Rattle.md_exact.specs.Places.{TextLine, whole}
-use Rattle.md_exact.specs.Prefixes.{following_all, containers}
-use Rattle.md_exact.specs.Rows.{AfterCode, Blank, Role, Row, is_blank_role, next_role, next_stays, row_of, rows_of}
+use Rattle.md_events.specs.Exact.Blocks as blocks
+use Rattle.md_events.specs.Exact.Blocks.{grouped, tail}
+use Rattle.md_events.specs.Exact.Places.{TextLine, whole}
+use Rattle.md_events.specs.Exact.Prefixes.{following_all, containers}
+use Rattle.md_events.specs.Exact.Rows.{AfterCode, Blank, Role, Row, is_blank_role, next_role, next_stays, row_of, rows_of}
 use Rattle.proof_exact_lines.specs.Last.{HasLine, continues_between, last_at, last_in}
 use Rattle.proof_exact_lines.specs.Unlisted.{LeavesAllowed, LinesAllowed, MarkersAllowed, NoneIs, without_lists}
 use Rattle.proof_exact_lines.proofs.GroupEvents.{all_events, all_unlisted, following_leaf, first_group, first_leaf}

@@ -14,9 +14,9 @@ use Rattle.md_meaning.specs.Texts.{first_byte}
 use Rattle.md_events.specs.Events.Nested.{pair}
 use Rattle.md_events.specs.Events.Places.{first_point}
 use Rattle.md_containers.specs.Listed.{is_item, listed}
-use Rattle.md_exact.specs.Blocks.{exact, front_line, front_row, front_size, mark_events, tail, text_lines}
-use Rattle.md_exact.specs.Leaves.{leaf}
-use Rattle.md_exact.specs.Places.{TextLine, ending, line_at, line_end, lines_from, part, past, piece, white}
+use Rattle.md_events.specs.Exact.Blocks.{exact, front_line, front_row, front_size, mark_events, tail, text_lines}
+use Rattle.md_events.specs.Exact.Leaves.{leaf}
+use Rattle.md_events.specs.Exact.Places.{TextLine, ending, line_at, line_end, lines_from, part, past, piece, white}
 use Rattle.proof_exact_lines.specs.Unlisted.{unlisted}
 use Rattle.proof_exact_lines.proofs.ExactListed.{begun, body-listed}
 use Rattle.proof_exact_lines.proofs.GroupEvents.{ending-none, tail_name}

@@ -27,8 +27,8 @@ use Rattle.proof_literal_laws.specs.Leaf.Fence.{after_parts, fence_parts, held_o
 use Rattle.proof_literal_laws.specs.Leaf.Fence.{white_part, word_parts}
 use Rattle.proof_literal_laws.specs.Leaf.Fence as room
 use Rattle.proof_literal_laws.specs.Leaf.FenceFurther.{closing_line, further_parts}
-use Rattle.md_exact.specs.Leaves.{content_line, fence_part, fenced_line, for_marker, info_parts}
-use Rattle.md_exact.specs.Places.{TextLine, line_end, past, piece, text_part, white}
+use Rattle.md_events.specs.Exact.Leaves.{content_line, fence_part, fenced_line, for_marker, info_parts}
+use Rattle.md_events.specs.Exact.Places.{TextLine, line_end, past, piece, text_part, white}
 use Rattle.proof_exact_lines.proofs.BeginsAt.{BeginsAt, begins-place, rest_bytes}
 use Rattle.proof_exact_lines.proofs.AfterIndent.{indent-past}
 use Rattle.proof_exact_lines.proofs.Lost.{begins-lost, line-lost, lost-end, white-lost}

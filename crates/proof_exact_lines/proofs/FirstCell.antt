@@ -5,7 +5,7 @@ use Rattle.std.proofs.lemmas.Bool.{eqb-true}
 use Rattle.md_meaning.specs.Rest.{is_blank}
 use Rattle.md_tables.specs.RowCells.{Cells, Divides, Ends, Shut, cells_of, onto}
 use Rattle.md_tables.proofs.RowCellLemmas.{cells-escaped, cells-none, cells-other, cells-pipe}
-use Rattle.md_exact.specs.Leaves.{cell_len}
+use Rattle.md_events.specs.Exact.Leaves.{cell_len}
 
 -- cells, by the first and by the bytes from its end on
 abbrev pub from_first : List ℕ → List ℕ → Cells

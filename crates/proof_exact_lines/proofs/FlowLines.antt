@@ -23,9 +23,9 @@ use Rattle.proof_literal_laws.specs.Leaf.Fence.{fence_line, held_of, linked}
 use Rattle.proof_literal_laws.specs.Leaf.FenceFurther.{further_line}
 use Rattle.proof_literal_laws.specs.Leaf.HtmlFlow.{html_events}
 use Rattle.proof_literal_laws.specs.Leaf.HtmlFlow as html
-use Rattle.md_exact.specs.Leaves.{content_line, fence_part, fenced_line, info_parts}
-use Rattle.md_exact.specs.Places.{ending, place, white}
-use Rattle.md_exact.specs.Rows.{Row}
+use Rattle.md_events.specs.Exact.Leaves.{content_line, fence_part, fenced_line, info_parts}
+use Rattle.md_events.specs.Exact.Places.{ending, place, white}
+use Rattle.md_events.specs.Exact.Rows.{Row}
 use Rattle.proof_exact_lines.proofs.BeginsAt.{BeginsAt, begins-place, rest_bytes}
 use Rattle.proof_exact_lines.proofs.LeafLines.{code-following, code-first, code-further, end_at, ends-at, fence-first}
 use Rattle.proof_exact_lines.proofs.LeafLines.{fence-further, html-first, html-further, linked_around}

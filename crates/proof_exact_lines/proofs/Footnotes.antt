@@ -17,10 +17,10 @@ use Rattle.md_events.specs.Events.Nested.{around, enter, pair}
 use Rattle.md_events.specs.Events.Places.{past_byte, past_text, same_place}
 use Rattle.md_events.proofs.FeedLines.{Stops}
 use Rattle.md_events.proofs.RestCells.{past_rest, rest_cells}
-use Rattle.md_exact.specs.Places.{TextLine, chunk, part, past, piece, text_part, white}
-use Rattle.md_exact.specs.Prefixes.{footnote_prefix}
-use Rattle.md_exact.proofs.OnLine.{LineIn, OnLine, indent-on}
-use Rattle.md_exact.proofs.PieceLemmas.{part-on, piece-on, text_part-on, white-on}
+use Rattle.md_events.specs.Exact.Places.{TextLine, chunk, part, past, piece, text_part, white}
+use Rattle.md_events.specs.Exact.Prefixes.{footnote_prefix}
+use Rattle.proof_exact_pieces.proofs.OnLine.{LineIn, OnLine, indent-on}
+use Rattle.proof_exact_pieces.proofs.PieceLemmas.{part-on, piece-on, text_part-on, white-on}
 use Rattle.proof_exact_lines.proofs.Items.{AfterBytes, AfterIndent, following-bytes, following-indent, over-some, rest}
 
 -- What a footnote definition has on the line on which it opens.

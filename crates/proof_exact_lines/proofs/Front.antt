@@ -33,15 +33,15 @@ use Rattle.proof_leaf_laws.specs.Front.{events_of, front_from, front_read, past_
 use Rattle.proof_leaf_laws.specs.Front as rooms
 use Rattle.proof_leaf_laws.proofs.FullLines.{IsLines, LastLine, NextLine, NoLines, ending-is, full-lines}
 use Rattle.proof_leaf_laws.proofs.Frontmatter.Found.{first-here, first-later, marker-marks}
-use Rattle.md_exact.specs.Blocks as exact_blocks
-use Rattle.md_exact.specs.Blocks.{front_line, front_row, front_size, tail, text_lines}
-use Rattle.md_exact.specs.Leaves.{joined, last_end, leaf, start}
-use Rattle.md_exact.specs.Places as exact
-use Rattle.md_exact.specs.Places.{TextLine, line_at, line_end, lines_from, next_line, past, piece, place, whole}
-use Rattle.md_exact.specs.Rows.{Row}
-use Rattle.md_exact.proofs.OnLine.{past-line}
-use Rattle.md_exact.proofs.PlaceLemmas.{line_start}
-use Rattle.md_exact.proofs.WholePlaces.{place-end, place-past, place-whole}
+use Rattle.md_events.specs.Exact.Blocks as exact_blocks
+use Rattle.md_events.specs.Exact.Blocks.{front_line, front_row, front_size, tail, text_lines}
+use Rattle.md_events.specs.Exact.Leaves.{joined, last_end, leaf, start}
+use Rattle.md_events.specs.Exact.Places as exact
+use Rattle.md_events.specs.Exact.Places.{TextLine, line_at, line_end, lines_from, next_line, past, piece, place, whole}
+use Rattle.md_events.specs.Exact.Rows.{Row}
+use Rattle.proof_exact_pieces.proofs.OnLine.{past-line}
+use Rattle.proof_exact_pieces.proofs.PlaceLemmas.{line_start}
+use Rattle.proof_exact_pieces.proofs.WholePlaces.{place-end, place-past, place-whole}
 
 abbrev rest : ℕ → List ℕ → Rest
 rest column bytes = record { column = column; spaces = 0; bytes = bytes }

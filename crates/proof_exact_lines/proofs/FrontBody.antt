@@ -20,8 +20,8 @@ use Rattle.proof_leaf_laws.specs.Front.{FrontRead, after_these, body_point, endi
 use Rattle.proof_leaf_laws.specs.Front.{front_from}
 use Rattle.proof_leaf_laws.specs.Front.{front_read, line_part, lines_read, mark_end, past_ending, point_or, text_front}
 use Rattle.proof_leaf_laws.proofs.FullLines.{IsLines, full-lines}
-use Rattle.md_exact.specs.Blocks.{front_size, text_lines}
-use Rattle.md_exact.specs.Places.{TextLine, line_at, lines_from}
+use Rattle.md_events.specs.Exact.Blocks.{front_size, text_lines}
+use Rattle.md_events.specs.Exact.Places.{TextLine, line_at, lines_from}
 use Rattle.proof_exact_lines.proofs.Front.{AllEnd, any-is, begin, begins-next, full-ends, size_by, upto, upto-is}
 
 -- these lines begin at a point, or there are none

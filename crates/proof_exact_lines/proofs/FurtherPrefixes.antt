@@ -20,9 +20,9 @@ use Rattle.md_events.specs.Spaces.{ends_line}
 use Rattle.md_events.proofs.AheadLemmas.{none-end}
 use Rattle.md_events.proofs.FeedLines.{Stops}
 use Rattle.md_events.proofs.RestCells.{past_rest, rest_cells}
-use Rattle.md_exact.specs.Places.{TextLine, white}
-use Rattle.md_exact.proofs.OnLine.{LineIn, OnLine, lose-on}
-use Rattle.md_exact.proofs.PieceLemmas.{white-on}
+use Rattle.md_events.specs.Exact.Places.{TextLine, white}
+use Rattle.proof_exact_pieces.proofs.OnLine.{LineIn, OnLine, lose-on}
+use Rattle.proof_exact_pieces.proofs.PieceLemmas.{white-on}
 
 -- what such a container has on a further line
 pub record HasFurther (text following : List ℕ) (line : TextLine) (r : Rest) (passed : ItemPassed)

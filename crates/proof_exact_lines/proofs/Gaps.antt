@@ -29,12 +29,12 @@ use Rattle.md_events.proofs.AheadLemmas.{white-no_ending}
 use Rattle.md_events.proofs.FeedLines.{NoFeed, Stops, spread}
 use Rattle.md_events.proofs.RestCells.{Cut, rest_cells}
 use Rattle.md_events.proofs.WalkedLemmas.{one-point}
-use Rattle.md_exact.specs.Leaves.{first_end, onto_next, start}
-use Rattle.md_exact.specs.Places.{TextLine, line_end, next_line, part, past, place, white, whole}
-use Rattle.md_exact.specs.Rows.{Row}
-use Rattle.md_exact.specs.Texts.{following_gap, gap, lines_left}
-use Rattle.md_exact.proofs.OnLine.{LineIn, OnLine, past-on, place-on, whole-on}
-use Rattle.md_exact.proofs.PlaceLemmas.{before-is, cut_len, line_start}
+use Rattle.md_events.specs.Exact.Leaves.{first_end, onto_next, start}
+use Rattle.md_events.specs.Exact.Places.{TextLine, line_end, next_line, part, past, place, white, whole}
+use Rattle.md_events.specs.Exact.Rows.{Row}
+use Rattle.md_events.specs.Exact.Texts.{following_gap, gap, lines_left}
+use Rattle.proof_exact_pieces.proofs.OnLine.{LineIn, OnLine, past-on, place-on, whole-on}
+use Rattle.proof_exact_pieces.proofs.PlaceLemmas.{before-is, cut_len, line_start}
 use Rattle.proof_content_laws.proofs.Defined.Along.{Turn, no_line}
 use Rattle.proof_content_laws.proofs.Defined.Gaps.{WhiteOf, white-of}
 use Rattle.proof_content_laws.proofs.Defined.Takes as Line

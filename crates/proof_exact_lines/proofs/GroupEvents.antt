@@ -14,10 +14,10 @@ use Rattle.md_meaning.specs.State.{Container, InFootnote, InItem, InQuote, Path}
 use Rattle.md_events.specs.Events.Blocks.{is_block}
 use Rattle.md_events.specs.Events.Nested.{enter, exit, pair}
 use Rattle.md_events.specs.Events.Spelled.{role}
-use Rattle.md_exact.specs.Blocks.{events_by, is_continued, group_events, grouped, onto, tail}
-use Rattle.md_exact.specs.Places.{TextLine, ending, line_end, next_line, place}
-use Rattle.md_exact.specs.Prefixes.{begin, begins, blocks_before, end_in_item, list_name}
-use Rattle.md_exact.specs.Rows.{Row, container_name, ends_from, is_blank_role, list_ends, list_continued, next_role}
+use Rattle.md_events.specs.Exact.Blocks.{events_by, is_continued, group_events, grouped, onto, tail}
+use Rattle.md_events.specs.Exact.Places.{TextLine, ending, line_end, next_line, place}
+use Rattle.md_events.specs.Exact.Prefixes.{begin, begins, blocks_before, end_in_item, list_name}
+use Rattle.md_events.specs.Exact.Rows.{Row, container_name, ends_from, is_blank_role, list_ends, list_continued, next_role}
 use Rattle.proof_exact_lines.specs.Unlisted.{LeafAllowed, LeavesAllowed, NoneIs, is_list, opening_prefix, plain_begin}
 use Rattle.proof_exact_lines.specs.Unlisted.{plain_begins, plain_ends, unlisted_groups, without_lists}
 use Rattle.proof_exact_lines.proofs.ListWalk.{opening-none}

@@ -26,8 +26,8 @@ use Rattle.md_link_definitions.proofs.TitleTexts.{title-texts, title_texts}
 use Rattle.md_events.specs.Ahead.{from_ending, line_cells}
 use Rattle.md_events.specs.Spaces.{any_size}
 use Rattle.md_events.proofs.FeedLines.{bytes_of}
-use Rattle.md_exact.specs.Rows.{Row}
-use Rattle.md_exact.specs.Texts.{following_gap, after_title, enclosed_part, gap, has_title}
+use Rattle.md_events.specs.Exact.Rows.{Row}
+use Rattle.md_events.specs.Exact.Texts.{following_gap, after_title, enclosed_part, gap, has_title}
 use Rattle.proof_content_laws.proofs.Defined.Along.{Turn}
 use Rattle.proof_content_laws.proofs.Defined.Marked.{TitleAre, following-gap, title-are}
 use Rattle.proof_content_laws.proofs.Defined.Takes.{Takes, Walk, takes-none, takes-then}

@@ -22,8 +22,8 @@ use Rattle.md_meaning.specs.Rest.{Rest, after_indent, cut_tab, is_white, run_len
 use Rattle.md_events.specs.Events.Places.{past_text}
 use Rattle.md_events.proofs.InlineLemmas.{past_text-append}
 use Rattle.proof_frame.specs.LineColumns.{part_over}
-use Rattle.md_exact.specs.Leaves.{heading_line}
-use Rattle.md_exact.specs.Places.{TextLine, past}
+use Rattle.md_events.specs.Exact.Leaves.{heading_line}
+use Rattle.md_events.specs.Exact.Places.{TextLine, past}
 use Rattle.proof_exact_lines.proofs.BeginsAt.{BeginsAt, rest_bytes}
 use Rattle.proof_exact_lines.proofs.Parts.{IsAfter, piece-end, past-following, piece-is, run-following}
 use Rattle.proof_exact_lines.proofs.Parts.{valid-bytes, text-is, text_over, white-following}

@@ -23,10 +23,10 @@ use Rattle.md_events.specs.Events.Places.{past_byte, past_text, same_place}
 use Rattle.md_events.proofs.FeedLines.{Stops}
 use Rattle.md_events.proofs.InlineLemmas.{past-index, same-refl}
 use Rattle.md_events.proofs.RestCells.{indent-length, indent-taken, lose-no_ending, past_rest, rest_cells}
-use Rattle.md_exact.specs.Places.{TextLine, past, white}
-use Rattle.md_exact.specs.Prefixes.{item_prefix}
-use Rattle.md_exact.proofs.OnLine.{LineIn, OnLine, indent-on, lose-on, past-on}
-use Rattle.md_exact.proofs.PieceLemmas.{part-on, piece-on, white-on}
+use Rattle.md_events.specs.Exact.Places.{TextLine, past, white}
+use Rattle.md_events.specs.Exact.Prefixes.{item_prefix}
+use Rattle.proof_exact_pieces.proofs.OnLine.{LineIn, OnLine, indent-on, lose-on, past-on}
+use Rattle.proof_exact_pieces.proofs.PieceLemmas.{part-on, piece-on, white-on}
 
 abbrev pub rest : ℕ → List ℕ → Rest
 rest column bytes = record { column = column; spaces = 0; bytes = bytes }

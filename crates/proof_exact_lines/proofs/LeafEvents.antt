@@ -18,13 +18,13 @@ use Rattle.md_events.specs.Events.Blocks.{is_block}
 use Rattle.md_events.specs.Events.Nested.{around, exit, pair}
 use Rattle.md_events.specs.Events.Spelled.{role}
 use Rattle.md_containers.specs.Listed.{is_item}
-use Rattle.md_exact.specs.Leaves.{Inner, cell_content, cell_dashes, cell_len, cell_text, cells, content_line, fence}
-use Rattle.md_exact.specs.Leaves.{fence_part, fenced_line, first_end, for_marker, heading_line, info_parts, joined}
-use Rattle.md_exact.specs.Leaves.{delimiter_row, last_end, leaf, onto_next, past_optional, row_line, runs, runs_line}
-use Rattle.md_exact.specs.Leaves.{span, start, table, text_row}
-use Rattle.md_exact.specs.Places.{TextLine, chunk, ending, is_same, line_end, next_line, part, past, piece, place}
-use Rattle.md_exact.specs.Places.{text_part, white}
-use Rattle.md_exact.specs.Rows.{Row}
+use Rattle.md_events.specs.Exact.Leaves.{Inner, cell_content, cell_dashes, cell_len, cell_text, cells, content_line, fence}
+use Rattle.md_events.specs.Exact.Leaves.{fence_part, fenced_line, first_end, for_marker, heading_line, info_parts, joined}
+use Rattle.md_events.specs.Exact.Leaves.{delimiter_row, last_end, leaf, onto_next, past_optional, row_line, runs, runs_line}
+use Rattle.md_events.specs.Exact.Leaves.{span, start, table, text_row}
+use Rattle.md_events.specs.Exact.Places.{TextLine, chunk, ending, is_same, line_end, next_line, part, past, piece, place}
+use Rattle.md_events.specs.Exact.Places.{text_part, white}
+use Rattle.md_events.specs.Exact.Rows.{Row}
 use Rattle.proof_exact_lines.specs.Unlisted.{NoneIs}
 use Rattle.proof_exact_lines.proofs.ListWalk.{none-append, none-items, none-part, none-piece}
 

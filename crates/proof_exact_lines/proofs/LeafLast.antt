@@ -21,8 +21,8 @@ use Rattle.md_meaning.specs.Table.{delimiter_columns, row_cells}
 use Rattle.md_meaning.specs.Tree.{Block, Blocks, Definition, End, Fence, Line, Math, More, Paragraph, Item}
 use Rattle.md_meaning.proofs.DefinitionLemmas.{cut_definitions-none, cut_definitions-some}
 use Rattle.md_meaning.proofs.FindsLemmas.{Finds, none-found, some-found, unless-found, when-found}
-use Rattle.md_exact.specs.Rows.{AfterCode, Blank, Delimiter, First, FirstText, Further, FurtherText, Role, Underline}
-use Rattle.md_exact.specs.Rows.{first_or, fresh_role, is_blank_role, role_on}
+use Rattle.md_events.specs.Exact.Rows.{AfterCode, Blank, Delimiter, First, FirstText, Further, FurtherText, Role, Underline}
+use Rattle.md_events.specs.Exact.Rows.{first_or, fresh_role, is_blank_role, role_on}
 use Rattle.proof_exact_lines.specs.Last.{HasLine, item_of, last_after, last_in, last_of}
 use Rattle.md_events.proofs.LeafBecomes.{Starts, html_line-starts, leaf-starts}
 

@@ -39,10 +39,10 @@ use Rattle.proof_literal_laws.specs.Leaf.Fence.{fence_around, fence_line, held_o
 use Rattle.proof_literal_laws.specs.Leaf.FenceFurther.{further_line, further_parts}
 use Rattle.proof_literal_laws.specs.Leaf.HtmlFlow.{data_of, html_events}
 use Rattle.proof_literal_laws.specs.Leaf.HtmlFlow as html
-use Rattle.md_exact.specs.Leaves.{content_line, fence_part, fenced_line, info_parts, heading_line, joined, leaf}
-use Rattle.md_exact.specs.Leaves.{runs_line}
-use Rattle.md_exact.specs.Places.{TextLine, line_end, place, white}
-use Rattle.md_exact.specs.Rows.{Row}
+use Rattle.md_events.specs.Exact.Leaves.{content_line, fence_part, fenced_line, info_parts, heading_line, joined, leaf}
+use Rattle.md_events.specs.Exact.Leaves.{runs_line}
+use Rattle.md_events.specs.Exact.Places.{TextLine, line_end, place, white}
+use Rattle.md_events.specs.Exact.Rows.{Row}
 use Rattle.proof_exact_lines.proofs.BeginsAt.{BeginsAt, begins-place, rest_bytes}
 use Rattle.proof_exact_lines.proofs.Fences.{further-line, opening-fence, white-first}
 use Rattle.proof_exact_lines.proofs.Heading.{heading-line}

@@ -21,15 +21,15 @@ use Rattle.md_events.specs.Events.Spelled as spelled
 use Rattle.md_events.specs.Events.Spelled.{LeafRole, OfBare, role}
 use Rattle.md_events.proofs.LeafBecomes.{IsBare, Starts, leaf-starts}
 use Rattle.md_containers.specs.Listed.{is_item, marker_ahead, next_by, next_item}
-use Rattle.md_exact.specs.Blocks as blocks
-use Rattle.md_exact.specs.Blocks.{bare_events, grouped, leaf_events}
-use Rattle.md_exact.specs.Leaves.{content_line, fence_part, fenced_line, for_marker, heading_line, info_parts, joined}
-use Rattle.md_exact.specs.Leaves.{last_end, leaf, onto_next, runs_line, span, start}
-use Rattle.md_exact.specs.Places.{TextLine, white, whole}
-use Rattle.md_exact.specs.Prefixes.{further_prefixes}
-use Rattle.md_exact.specs.Rows.{AfterCode, Blank, Delimiter, First, FirstText, Further, FurtherText, Head, Role, Row}
-use Rattle.md_exact.specs.Rows.{Underline, fresh_role, is_blank_role, next_role, role_before, role_on, row_of, rows_of}
-use Rattle.md_exact.specs.Texts.{is_underline}
+use Rattle.md_events.specs.Exact.Blocks as blocks
+use Rattle.md_events.specs.Exact.Blocks.{bare_events, grouped, leaf_events}
+use Rattle.md_events.specs.Exact.Leaves.{content_line, fence_part, fenced_line, for_marker, heading_line, info_parts, joined}
+use Rattle.md_events.specs.Exact.Leaves.{last_end, leaf, onto_next, runs_line, span, start}
+use Rattle.md_events.specs.Exact.Places.{TextLine, white, whole}
+use Rattle.md_events.specs.Exact.Prefixes.{further_prefixes}
+use Rattle.md_events.specs.Exact.Rows.{AfterCode, Blank, Delimiter, First, FirstText, Further, FurtherText, Head, Role, Row}
+use Rattle.md_events.specs.Exact.Rows.{Underline, fresh_role, is_blank_role, next_role, role_before, role_on, row_of, rows_of}
+use Rattle.md_events.specs.Exact.Texts.{is_underline}
 use Rattle.proof_exact_lines.specs.Last.{HasLine}
 use Rattle.proof_exact_lines.specs.Unlisted.{IsLeaf, LeavesAllowed, NoneIs}
 use Rattle.proof_exact_lines.proofs.ExactListed.{line-text, by-new, begun, body_rows, open-follows}

@@ -18,12 +18,12 @@ use Rattle.md_meaning.specs.State.{Container, InFootnote, InItem, InQuote, Path,
 use Rattle.md_meaning.specs.Step.{step}
 use Rattle.md_events.specs.Events.Blocks.{is_block}
 use Rattle.md_containers.specs.Listed.{Place, is_continued, is_item, listed_from, next_item}
-use Rattle.md_exact.specs.Blocks as blocks
-use Rattle.md_exact.specs.Leaves.{content_line, joined}
-use Rattle.md_exact.specs.Places.{TextLine, ending, line_end, place, piece, white, whole}
-use Rattle.md_exact.specs.Prefixes.{begins, following_all, blocks_before, containers, further_prefixes}
-use Rattle.md_exact.specs.Rows.{AfterCode, Blank, Role, Row, begin_with_item, ends_from, is_blank_role, list_continued}
-use Rattle.md_exact.specs.Rows.{next_role, next_stays, rows_of}
+use Rattle.md_events.specs.Exact.Blocks as blocks
+use Rattle.md_events.specs.Exact.Leaves.{content_line, joined}
+use Rattle.md_events.specs.Exact.Places.{TextLine, ending, line_end, place, piece, white, whole}
+use Rattle.md_events.specs.Exact.Prefixes.{begins, following_all, blocks_before, containers, further_prefixes}
+use Rattle.md_events.specs.Exact.Rows.{AfterCode, Blank, Role, Row, begin_with_item, ends_from, is_blank_role, list_continued}
+use Rattle.md_events.specs.Exact.Rows.{next_role, next_stays, rows_of}
 use Rattle.proof_exact_lines.specs.Last.{continues_between, last_at, last_in, last_of, marker_in}
 use Rattle.proof_exact_lines.specs.Unlisted.{IsLeaf, MarkersAllowed, NoneIs, plain_begins, plain_ends, without_lists}
 use Rattle.proof_exact_lines.proofs.GroupEvents.{all-first, all_events, all_unlisted, begins-without, following-last}

@@ -21,10 +21,10 @@ use Rattle.md_events.specs.Events.Spelled.{ContainerRole, Role, role}
 use Rattle.md_containers.specs.Listed.{Place, is_continued, is_item, is_marker, listed_from, marker_ahead}
 use Rattle.md_containers.specs.Listed.{list_begin, list_name, marker_by, next_item}
 use Rattle.md_containers.proofs.ListedLemmas.{passes-given}
-use Rattle.md_exact.specs.Places.{TextLine, chunk, is_same, part, past, piece, place, text_part, white}
-use Rattle.md_exact.specs.Prefixes.{alert_part, begin, begins, blocks_before, end_in_item, footnote_prefix}
-use Rattle.md_exact.specs.Prefixes.{further_prefix, further_prefixes, item_prefix, quote_prefix}
-use Rattle.md_exact.specs.Rows.{Row, container_name, ends_from, list_ends, list_continued}
+use Rattle.md_events.specs.Exact.Places.{TextLine, chunk, is_same, part, past, piece, place, text_part, white}
+use Rattle.md_events.specs.Exact.Prefixes.{alert_part, begin, begins, blocks_before, end_in_item, footnote_prefix}
+use Rattle.md_events.specs.Exact.Prefixes.{further_prefix, further_prefixes, item_prefix, quote_prefix}
+use Rattle.md_events.specs.Exact.Rows.{Row, container_name, ends_from, list_ends, list_continued}
 use Rattle.proof_exact_lines.specs.Last.{continues_between, last_of, marker_in}
 use Rattle.proof_exact_lines.specs.Unlisted.{MarkerAt, MarkerAllowed, MarkersAllowed, NoneIs, opening_prefix}
 use Rattle.proof_exact_lines.specs.Unlisted.{plain_begin, plain_begins, plain_ends, pushed}

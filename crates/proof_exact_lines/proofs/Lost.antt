@@ -15,8 +15,8 @@ use Rattle.md_events.proofs.FeedLines.{columns_more}
 use Rattle.md_events.proofs.RestCells.{bare-same, without_first}
 use Rattle.md_events.proofs.LostColumns.{lose-bare}
 use Rattle.proof_frame.specs.LineColumns.{columns_part, lost_line, next_point, part_over, past_columns}
-use Rattle.md_exact.specs.Leaves.{content_line}
-use Rattle.md_exact.specs.Places.{TextLine, is_same, line_end, place, white}
+use Rattle.md_events.specs.Exact.Leaves.{content_line}
+use Rattle.md_events.specs.Exact.Places.{TextLine, is_same, line_end, place, white}
 use Rattle.proof_exact_lines.proofs.BeginsAt.{BeginsAt, begins-place, columns-snoc, rest_at, rest_bytes}
 use Rattle.proof_exact_lines.proofs.Parts.{end-following, piece-end}
 

@@ -20,8 +20,8 @@ use Rattle.md_meaning.specs.Rest.{without_column}
 use Rattle.md_meaning.specs.State.{At, Container, InFootnote, InItem, InQuote, Path, Within, spot}
 use Rattle.md_meaning.specs.Step.{is_concrete, is_open_text, step}
 use Rattle.md_meaning.proofs.FindsLemmas.{Finds, first-found, none-found, some-found, when-found}
-use Rattle.md_exact.specs.Places.{TextLine, whole}
-use Rattle.md_exact.specs.Prefixes.{following_all, containers, taken_prefixes, new_containers, opened}
+use Rattle.md_events.specs.Exact.Places.{TextLine, whole}
+use Rattle.md_events.specs.Exact.Prefixes.{following_all, containers, taken_prefixes, new_containers, opened}
 use Rattle.proof_exact_lines.specs.Unlisted.{LinesAllowed, MarkerAt, MarkerAllowed, MarkersAllowed}
 
 -- The end of a line.

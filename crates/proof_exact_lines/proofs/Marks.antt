@@ -20,12 +20,12 @@ use Rattle.md_link_definitions.proofs.LabelLines.{label-lines, label_lines}
 use Rattle.md_events.specs.Ahead.{point_after}
 use Rattle.md_events.specs.Events.Nested.{around, enter, enter_link, exit, pair}
 use Rattle.md_events.specs.Events.Places.{same_place}
-use Rattle.md_exact.specs.Leaves.{span}
-use Rattle.md_exact.specs.Places.{is_same, part, past, place}
-use Rattle.md_exact.specs.Rows.{Row}
-use Rattle.md_exact.specs.Texts as Texts
-use Rattle.md_exact.specs.Texts.{after_label, chunks as row_chunks, enclosed_part, left, mark}
-use Rattle.md_exact.specs.Texts.{text_span}
+use Rattle.md_events.specs.Exact.Leaves.{span}
+use Rattle.md_events.specs.Exact.Places.{is_same, part, past, place}
+use Rattle.md_events.specs.Exact.Rows.{Row}
+use Rattle.md_events.specs.Exact.Texts as Texts
+use Rattle.md_events.specs.Exact.Texts.{after_label, chunks as row_chunks, enclosed_part, left, mark}
+use Rattle.md_events.specs.Exact.Texts.{text_span}
 use Rattle.proof_frame.specs.Laid.{LineBreak, laid}
 use Rattle.proof_content_laws.proofs.Defined.Along.{Turn, breaks}
 use Rattle.proof_content_laws.proofs.Defined.Marked.{LabelAre, MarkedOf, label-are, marked-of}

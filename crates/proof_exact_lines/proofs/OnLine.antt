@@ -13,9 +13,9 @@ use Rattle.md_events.specs.Events.Places.{columns_before, columns_from}
 use Rattle.md_events.proofs.PlacesLemmas.{Placed}
 use Rattle.proof_frame.specs.LineColumns.{rest_of}
 use Rattle.proof_frame.proofs.IndentRemoved.Columns.{rest-again}
-use Rattle.md_exact.specs.Places.{TextLine}
-use Rattle.md_exact.proofs.OnLine.{LineIn, OnLine}
-use Rattle.md_exact.proofs.PlaceLemmas.{before, before-is, columns-in, cut_len}
+use Rattle.md_events.specs.Exact.Places.{TextLine}
+use Rattle.proof_exact_pieces.proofs.OnLine.{LineIn, OnLine}
+use Rattle.proof_exact_pieces.proofs.PlaceLemmas.{before, before-is, columns-in, cut_len}
 use Rattle.proof_exact_lines.proofs.BeginsAt.{BeginsAt, rest_bytes}
 
 -- so many columns of a tab are fewer than it has

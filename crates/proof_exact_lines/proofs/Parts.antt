@@ -20,7 +20,7 @@ use Rattle.md_events.specs.Events.Nested.{around, pair}
 use Rattle.md_events.specs.Events.Places.{past_text}
 use Rattle.md_events.proofs.InlineLemmas.{past_text-append}
 use Rattle.proof_frame.specs.LineColumns.{part_over}
-use Rattle.md_exact.specs.Places.{TextLine, chunk, is_same, line_end, past, piece, place, text_part}
+use Rattle.md_events.specs.Exact.Places.{TextLine, chunk, is_same, line_end, past, piece, place, text_part}
 use Rattle.proof_exact_lines.proofs.BeginsAt.{BeginsAt, begins-end, begins-past, begins-place, rest_bytes}
 use Rattle.proof_exact_lines.proofs.AfterIndent.{indent-past}
 

@@ -32,10 +32,10 @@ use Rattle.md_events.proofs.LostColumns.{column-step}
 use Rattle.md_events.proofs.RestCells.{Bare, HasIndent, RestAt, bare, bare-cells, column-first, indent-length}
 use Rattle.md_events.proofs.RestCells.{indent-taken, lose-no_ending, rest_cells, without_first}
 use Rattle.md_events.proofs.RestLines.{small-room}
-use Rattle.md_exact.specs.Places.{TextLine, past, piece, white}
-use Rattle.md_exact.specs.Prefixes.{quote_prefix}
-use Rattle.md_exact.proofs.OnLine.{LineIn, OnLine, indent-on, lose-on, past-on}
-use Rattle.md_exact.proofs.PieceLemmas.{part-on, piece-on, white-on}
+use Rattle.md_events.specs.Exact.Places.{TextLine, past, piece, white}
+use Rattle.md_events.specs.Exact.Prefixes.{quote_prefix}
+use Rattle.proof_exact_pieces.proofs.OnLine.{LineIn, OnLine, indent-on, lose-on, past-on}
+use Rattle.proof_exact_pieces.proofs.PieceLemmas.{part-on, piece-on, white-on}
 
 abbrev rest : ℕ → ℕ → List ℕ → Rest
 rest column spaces bytes = record { column = column; spaces = spaces; bytes = bytes }

@@ -16,10 +16,10 @@ use Rattle.md_events.proofs.FeedLines.{tab_cells, tab_end, tab_end-stop}
 use Rattle.md_events.proofs.InlineLemmas.{past-index}
 use Rattle.md_events.proofs.PlacesLemmas.{placed-text}
 use Rattle.md_events.proofs.RestCells.{Cut, cells_by, past_cut, rest_cells}
-use Rattle.md_exact.specs.Places.{TextLine, past}
-use Rattle.md_exact.proofs.OnLine.{OnLine, past-line}
-use Rattle.md_exact.proofs.PieceLemmas.{same-spaces}
-use Rattle.md_exact.proofs.PlaceLemmas.{past-column}
+use Rattle.md_events.specs.Exact.Places.{TextLine, past}
+use Rattle.proof_exact_pieces.proofs.OnLine.{OnLine, past-line}
+use Rattle.proof_exact_pieces.proofs.PieceLemmas.{same-spaces}
+use Rattle.proof_exact_pieces.proofs.PlaceLemmas.{past-column}
 use Rattle.proof_content_laws.proofs.Defined.Along.{Valid, Steps, no_line}
 use Rattle.proof_content_laws.proofs.Defined.Runs.{RunOf, run-of}
 use Rattle.proof_content_laws.proofs.Defined.Strands.{run-some}

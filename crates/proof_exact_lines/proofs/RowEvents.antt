@@ -7,9 +7,9 @@ use Rattle.md_meaning.specs.Containers.{Taken}
 use Rattle.md_meaning.specs.Rest.{Rest}
 use Rattle.md_meaning.specs.State.{Path}
 use Rattle.md_meaning.specs.Step.{step}
-use Rattle.md_exact.specs.Places.{TextLine, line_end, place, whole}
-use Rattle.md_exact.specs.Prefixes.{begins, following_all, containers, further_prefixes, taken_prefixes, new_containers}
-use Rattle.md_exact.specs.Rows.{Row, next_stays, row_of}
+use Rattle.md_events.specs.Exact.Places.{TextLine, line_end, place, whole}
+use Rattle.md_events.specs.Exact.Prefixes.{begins, following_all, containers, further_prefixes, taken_prefixes, new_containers}
+use Rattle.md_events.specs.Exact.Rows.{Row, next_stays, row_of}
 use Rattle.proof_exact_lines.specs.Unlisted.{plain_begins, plain_ends, without_lists}
 use Rattle.proof_exact_lines.proofs.GroupEvents.{begins-without, ends-without, without-append, without-none}
 use Rattle.proof_exact_lines.proofs.ListWalk.{further-none}

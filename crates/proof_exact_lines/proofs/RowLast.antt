@@ -15,12 +15,12 @@ use Rattle.md_meaning.specs.State.{OpenFence, OpenHtml, OpenParagraph, OpenTable
 use Rattle.md_meaning.specs.Step.{leaf_line, step, with_lazy}
 use Rattle.md_meaning.specs.Tree.{Blocks}
 use Rattle.md_meaning.proofs.FindsLemmas.{Finds, some-found, when-found}
-use Rattle.md_exact.specs.Blocks as blocks
-use Rattle.md_exact.specs.Places.{TextLine, line_end, place, whole}
-use Rattle.md_exact.specs.Prefixes.{begins, following_all, containers, further_prefixes, taken_prefixes}
-use Rattle.md_exact.specs.Rows.{AfterCode, Blank, Delimiter, First, FirstText, Further, FurtherText, Head, Role, Row}
-use Rattle.md_exact.specs.Rows.{Underline, ends_from, first_or, is_blank_role, next_role, next_stays, role_before}
-use Rattle.md_exact.specs.Rows.{role_on, row_of}
+use Rattle.md_events.specs.Exact.Blocks as blocks
+use Rattle.md_events.specs.Exact.Places.{TextLine, line_end, place, whole}
+use Rattle.md_events.specs.Exact.Prefixes.{begins, following_all, containers, further_prefixes, taken_prefixes}
+use Rattle.md_events.specs.Exact.Rows.{AfterCode, Blank, Delimiter, First, FirstText, Further, FurtherText, Head, Role, Row}
+use Rattle.md_events.specs.Exact.Rows.{Underline, ends_from, first_or, is_blank_role, next_role, next_stays, role_before}
+use Rattle.md_events.specs.Exact.Rows.{role_on, row_of}
 use Rattle.proof_exact_lines.specs.Last.{HasLine, last_at, last_after, last_in, marker_in}
 use Rattle.proof_exact_lines.specs.Unlisted.{pushed}
 use Rattle.proof_exact_lines.proofs.LeafLast.{IsCode, Leaves, Met, meets}

@@ -24,9 +24,9 @@ use Rattle.proof_frame.specs.LineColumns.{part_over}
 use Rattle.proof_leaf_laws.proofs.GfmTable.DelimiterRowCells.{Aligned, AreDelimiters, IsValue, aligned, values-fit}
 use Rattle.proof_leaf_laws.proofs.GfmTable.DelimiterRowCells.{colons, marker, value-runs, value_events}
 use Rattle.proof_leaf_laws.proofs.GfmTable.RowCells.{EachFits}
-use Rattle.md_exact.specs.Leaves as exact
-use Rattle.md_exact.specs.Leaves.{Inner, cell_dashes, cell_text, past_optional, row_line}
-use Rattle.md_exact.specs.Places.{TextLine, past, piece, white}
+use Rattle.md_events.specs.Exact.Leaves as exact
+use Rattle.md_events.specs.Exact.Leaves.{Inner, cell_dashes, cell_text, past_optional, row_line}
+use Rattle.md_events.specs.Exact.Places.{TextLine, past, piece, white}
 use Rattle.proof_exact_lines.proofs.BeginsAt.{BeginsAt, begins-place, rest_bytes}
 use Rattle.proof_exact_lines.proofs.LeafLines.{end_at, ends-at}
 use Rattle.proof_exact_lines.proofs.Parts.{IsAfter, Valid, piece-is, run-following, valid-bytes, text-is, text_over}

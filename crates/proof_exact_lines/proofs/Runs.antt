@@ -21,8 +21,8 @@ use Rattle.md_events.specs.Events.Places.{past_byte, past_text}
 use Rattle.md_events.proofs.RestLines.{count-one}
 use Rattle.proof_frame.specs.MarkRuns.{Apart, Marks, White, mark_runs}
 use Rattle.proof_frame.specs.LineColumns.{part_over}
-use Rattle.md_exact.specs.Leaves.{runs, runs_line}
-use Rattle.md_exact.specs.Places.{TextLine, past}
+use Rattle.md_events.specs.Exact.Leaves.{runs, runs_line}
+use Rattle.md_events.specs.Exact.Places.{TextLine, past}
 use Rattle.proof_exact_lines.proofs.BeginsAt.{BeginsAt, rest_bytes}
 use Rattle.proof_exact_lines.proofs.Parts.{IsAfter, Valid, piece-is, run-following, valid-bytes, three-joined}
 use Rattle.proof_exact_lines.proofs.Parts.{white-following}

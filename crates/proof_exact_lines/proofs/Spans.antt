@@ -17,10 +17,10 @@ use Rattle.proof_frame.specs.Row.{Row as FrameRow, any_framed, but_end, but_ends
 use Rattle.proof_frame.specs.Row.{inside_leaf, is_framed, last_row, span_after, span_by, span_rest}
 use Rattle.proof_frame.proofs.LeafLines.Cuts.{but_end-is, but_ends-is, end-is}
 use Rattle.proof_frame.proofs.LeafLines.Framed.{rest-following}
-use Rattle.md_exact.specs.Leaves.{fence, fence_part, fenced_line, for_marker, info_parts, joined, last_end, leaf}
-use Rattle.md_exact.specs.Leaves.{onto_next, start}
-use Rattle.md_exact.specs.Places.{TextLine, ending, line_end, place, white}
-use Rattle.md_exact.specs.Rows.{Row}
+use Rattle.md_events.specs.Exact.Leaves.{fence, fence_part, fenced_line, for_marker, info_parts, joined, last_end, leaf}
+use Rattle.md_events.specs.Exact.Leaves.{onto_next, start}
+use Rattle.md_events.specs.Exact.Places.{TextLine, ending, line_end, place, white}
+use Rattle.md_events.specs.Exact.Rows.{Row}
 use Rattle.proof_exact_lines.proofs.LeafLines.{linked_around}
 
 -- A line as the exact list has it, and as flow reads it: where its rest begins and ends, its ending, and what is before

@@ -15,7 +15,7 @@ use Rattle.md_meaning.specs.Step.{lazy_by, leaf_line, spot_of, step, stopped, st
 use Rattle.md_meaning.specs.Step as step
 use Rattle.md_meaning.specs.Tree.{Blocks, End}
 use Rattle.md_meaning.proofs.ContainerLemmas.{opens-leaves}
-use Rattle.md_exact.specs.Prefixes.{following_all, blocks_before, containers, taken_prefixes, new_containers, opened}
+use Rattle.md_events.specs.Exact.Prefixes.{following_all, blocks_before, containers, taken_prefixes, new_containers, opened}
 use Rattle.proof_exact_lines.specs.Last.{HasLine, item_of, last_at, last_in, last_of, marker_in}
 use Rattle.proof_exact_lines.proofs.LeafLast.{Ends, fresh-blank, fresh-ends, last-then, leaf-last}
 

@@ -20,10 +20,10 @@ use Rattle.md_events.specs.Events.Nested.{enter_link, exit}
 use Rattle.md_events.specs.Events.Places.{same_place}
 use Rattle.md_events.proofs.FeedLines.{NoFeed, Stops, point_after-append}
 use Rattle.md_events.proofs.RestCells.{Cut, rest_cells}
-use Rattle.md_exact.specs.Places.{chunk, is_same, next_line, past, place}
-use Rattle.md_exact.specs.Rows.{Row}
-use Rattle.md_exact.specs.Texts.{chunks as row_chunks}
-use Rattle.md_exact.proofs.PieceLemmas.{same-on}
+use Rattle.md_events.specs.Exact.Places.{chunk, is_same, next_line, past, place}
+use Rattle.md_events.specs.Exact.Rows.{Row}
+use Rattle.md_events.specs.Exact.Texts.{chunks as row_chunks}
+use Rattle.proof_exact_pieces.proofs.PieceLemmas.{same-on}
 use Rattle.proof_content_laws.proofs.Defined.Along.{IsTurn, Valid, Steps, Turn, no_line}
 use Rattle.proof_content_laws.proofs.Defined.Takes as Line
 use Rattle.proof_content_laws.proofs.Defined.Takes.{Takes, Walk, on-line, over-end, takes-end, takes-none}

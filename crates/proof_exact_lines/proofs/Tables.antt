@@ -18,10 +18,10 @@ use Rattle.proof_leaf_laws.proofs.GfmTable.DelimiterRowCells.{AreDelimiters, col
 use Rattle.proof_leaf_laws.proofs.GfmTable.TableForm.{AreBodyRows, IsFilledLine, IsTable, body_after, delimiter_part}
 use Rattle.proof_leaf_laws.proofs.GfmTable.TableForm.{gap_events, head_events, row_part, rows_after, table_events}
 use Rattle.proof_leaf_laws.proofs.GfmTable.TableUnread.{line-dark, table-unread}
-use Rattle.md_exact.specs.Leaves.{delimiter_row, joined, last_end, leaf, onto_next, start, table, text_row}
-use Rattle.md_exact.specs.Places.{ending, line_end, place}
-use Rattle.md_exact.proofs.OnLine.{LineIn, OnLine}
-use Rattle.md_exact.specs.Rows.{Row}
+use Rattle.md_events.specs.Exact.Leaves.{delimiter_row, joined, last_end, leaf, onto_next, start, table, text_row}
+use Rattle.md_events.specs.Exact.Places.{ending, line_end, place}
+use Rattle.proof_exact_pieces.proofs.OnLine.{LineIn, OnLine}
+use Rattle.md_events.specs.Exact.Rows.{Row}
 use Rattle.proof_exact_lines.proofs.BeginsAt.{rest_bytes}
 use Rattle.proof_exact_lines.proofs.LeafLines.{end_at}
 use Rattle.proof_exact_lines.proofs.OnLine.{on-begins}

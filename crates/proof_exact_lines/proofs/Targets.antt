@@ -10,9 +10,9 @@ use Rattle.md_engine.specs.Meaning.{Cell}
 use Rattle.md_meaning.specs.Ascii.{less_than}
 use Rattle.md_events.specs.Ahead.{point_after}
 use Rattle.md_events.specs.Events.Nested.{around, enter, exit}
-use Rattle.md_exact.specs.Leaves.{span}
-use Rattle.md_exact.specs.Rows.{Row}
-use Rattle.md_exact.specs.Texts.{destination_part, enclosed_part, next_byte, text_span}
+use Rattle.md_events.specs.Exact.Leaves.{span}
+use Rattle.md_events.specs.Exact.Rows.{Row}
+use Rattle.md_events.specs.Exact.Texts.{destination_part, enclosed_part, next_byte, text_span}
 use Rattle.proof_content_laws.proofs.Defined.Along.{Turn}
 use Rattle.proof_content_laws.proofs.Defined.Takes.{Takes, Walk, takes-around}
 use Rattle.proof_exact_lines.proofs.Ahead.{Ahead}

@@ -17,13 +17,13 @@ use Rattle.md_meaning.specs.Rest.{Rest, after_indent, is_blank}
 use Rattle.md_events.specs.Events.Blocks.{is_block}
 use Rattle.md_events.specs.Events.Spelled.{role}
 use Rattle.md_containers.specs.Listed.{is_item, next_item}
-use Rattle.md_exact.specs.Leaves.{first_end, last_end, leaf, onto_next, runs_line, span, start}
-use Rattle.md_exact.specs.Places.{TextLine, chunk, is_same, line_end, next_line, past, white}
-use Rattle.md_exact.specs.Rows.{Row}
-use Rattle.md_exact.specs.Texts.{ahead, back, after_destination, following_gap, after_label, after_title, chunks}
-use Rattle.md_exact.specs.Texts.{definition, definition_end, destination_part, enclosed_part, gap, has_title}
-use Rattle.md_exact.specs.Texts.{is_underline}
-use Rattle.md_exact.specs.Texts.{left, lines_left, mark, next_byte, on_first, remaining, text, text_events, text_span}
+use Rattle.md_events.specs.Exact.Leaves.{first_end, last_end, leaf, onto_next, runs_line, span, start}
+use Rattle.md_events.specs.Exact.Places.{TextLine, chunk, is_same, line_end, next_line, past, white}
+use Rattle.md_events.specs.Exact.Rows.{Row}
+use Rattle.md_events.specs.Exact.Texts.{ahead, back, after_destination, following_gap, after_label, after_title, chunks}
+use Rattle.md_events.specs.Exact.Texts.{definition, definition_end, destination_part, enclosed_part, gap, has_title}
+use Rattle.md_events.specs.Exact.Texts.{is_underline}
+use Rattle.md_events.specs.Exact.Texts.{left, lines_left, mark, next_byte, on_first, remaining, text, text_events, text_span}
 use Rattle.proof_exact_lines.specs.Unlisted.{NoneIs}
 use Rattle.proof_exact_lines.proofs.LeafEvents.{NoItem, Plain, item-append, item-around, item-chunk, leaf-items}
 use Rattle.proof_exact_lines.proofs.LeafEvents.{next-none, runs_line-items}

@@ -12,10 +12,10 @@ use Rattle.md_events.specs.Events.Nested.{around, enter_link, exit}
 use Rattle.proof_frame.specs.Row.{Row as FrameRow, after_row, last_row}
 use Rattle.proof_frame.specs.TextLines.{text_leaf}
 use Rattle.proof_frame.specs.UnreadText.{linked_lines}
-use Rattle.md_exact.specs.Leaves.{last_end, span}
-use Rattle.md_exact.specs.Places.{chunk, is_same, line_end, next_line, place}
-use Rattle.md_exact.specs.Rows.{Row}
-use Rattle.md_exact.specs.Texts.{chunks, text_span}
+use Rattle.md_events.specs.Exact.Leaves.{last_end, span}
+use Rattle.md_events.specs.Exact.Places.{chunk, is_same, line_end, next_line, place}
+use Rattle.md_events.specs.Exact.Rows.{Row}
+use Rattle.md_events.specs.Exact.Texts.{chunks, text_span}
 use Rattle.proof_exact_lines.proofs.Spans.{SameLine}
 
 -- lines of a text: after the ending of each the next one begins

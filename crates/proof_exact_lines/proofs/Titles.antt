@@ -22,10 +22,10 @@ use Rattle.md_link_definitions.proofs.TitleTexts.{title_texts}
 use Rattle.md_link_definitions.proofs.WholeCellLemmas.{texts-enclosed, texts_closed}
 use Rattle.md_events.specs.Ahead.{point_after}
 use Rattle.md_events.specs.Events.Nested.{around, pair}
-use Rattle.md_exact.specs.Places.{past}
-use Rattle.md_exact.specs.Rows.{Row}
-use Rattle.md_exact.specs.Texts as Texts
-use Rattle.md_exact.specs.Texts.{after_title, enclosed_part, lines_left}
+use Rattle.md_events.specs.Exact.Places.{past}
+use Rattle.md_events.specs.Exact.Rows.{Row}
+use Rattle.md_events.specs.Exact.Texts as Texts
+use Rattle.md_events.specs.Exact.Texts.{after_title, enclosed_part, lines_left}
 use Rattle.proof_content_laws.proofs.Defined.Along.{Turn}
 use Rattle.proof_content_laws.proofs.Defined.Marked.{MarkedOf, TitleAre, marked-of, title-are}
 use Rattle.proof_content_laws.proofs.Defined.Takes.{Takes, Walk}

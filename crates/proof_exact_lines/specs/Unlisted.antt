@@ -17,12 +17,12 @@ use Rattle.md_meaning.specs.Tree.{End}
 use Rattle.md_events.specs.Events.Nested.{enter, exit}
 use Rattle.md_events.specs.Events.Spelled.{Role, role}
 use Rattle.md_containers.specs.Listed.{is_item, next_item}
-use Rattle.md_exact.specs.Blocks.{events_by, front_line, front_row, front_size, grouped, mark_events, tail, text_lines}
-use Rattle.md_exact.specs.Leaves.{leaf}
-use Rattle.md_exact.specs.Places.{TextLine, is_same, past, place, whole}
-use Rattle.md_exact.specs.Prefixes.{following_all, containers, footnote_prefix, taken_prefixes, item_prefix}
-use Rattle.md_exact.specs.Prefixes.{new_containers, quote_prefix}
-use Rattle.md_exact.specs.Rows.{Row, container_name, is_blank_role, rows_of}
+use Rattle.md_events.specs.Exact.Blocks.{events_by, front_line, front_row, front_size, grouped, mark_events, tail, text_lines}
+use Rattle.md_events.specs.Exact.Leaves.{leaf}
+use Rattle.md_events.specs.Exact.Places.{TextLine, is_same, past, place, whole}
+use Rattle.md_events.specs.Exact.Prefixes.{following_all, containers, footnote_prefix, taken_prefixes, item_prefix}
+use Rattle.md_events.specs.Exact.Prefixes.{new_containers, quote_prefix}
+use Rattle.md_events.specs.Exact.Rows.{Row, container_name, is_blank_role, rows_of}
 
 -- Without lists.
 

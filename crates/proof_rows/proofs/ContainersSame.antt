@@ -33,9 +33,9 @@ use Rattle.proof_frame.proofs.PassedFacts.{Agree, HasOpening}
 use Rattle.proof_frame.proofs.RegistryRead.{IsRead}
 use Rattle.md_registry.specs.Registry.{proceeds_at, opens_at}
 use Rattle.md_registry.proofs.Registry.{container-laws}
-use Rattle.md_exact.specs.Places.{TextLine}
-use Rattle.md_exact.specs.Prefixes.{footnote_prefix, further_prefix, item_prefix}
-use Rattle.md_exact.proofs.OnLine.{LineIn, OnLine, place-on}
+use Rattle.md_events.specs.Exact.Places.{TextLine}
+use Rattle.md_events.specs.Exact.Prefixes.{footnote_prefix, further_prefix, item_prefix}
+use Rattle.proof_exact_pieces.proofs.OnLine.{LineIn, OnLine, place-on}
 use Rattle.proof_exact_lines.proofs.Alerts.{opening-same}
 use Rattle.proof_exact_lines.proofs.Footnotes.{footnote-opens}
 use Rattle.proof_exact_lines.proofs.FurtherPrefixes.{footnote-same, item-same}

@@ -13,8 +13,8 @@ use Rattle.md_meaning.specs.State.{Innermost, Leaf, NoLeaf, OpenParagraph, Parag
 use Rattle.md_meaning.specs.State.{texts}
 use Rattle.md_meaning.specs.Step.{became, with_lazy}
 use Rattle.md_meaning.specs.Tree.{Blocks, End}
-use Rattle.md_exact.specs.Rows.{Blank, Delimiter, First, FirstText, Further, FurtherText, Role, Underline, first_or}
-use Rattle.md_exact.specs.Rows.{fresh_role, role_on}
+use Rattle.md_events.specs.Exact.Rows.{Blank, Delimiter, First, FirstText, Further, FurtherText, Role, Underline, first_or}
+use Rattle.md_events.specs.Exact.Rows.{fresh_role, role_on}
 use Rattle.md_leaves.specs.HeadingSetext.{may_turn}
 use Rattle.md_link_definitions.specs.Progress.{is_none_left}
 use Rattle.proof_frame.specs.HeldLeaf.{has_lines, kind_of_leaf, may_continue, met_by, takes_lazy}

@@ -19,8 +19,8 @@ use Rattle.md_engine.specs.Meaning.{Accepts, Behaviour, Cell, Feed, Here, here}
 use Rattle.md_engine.specs.World.{World}
 use Rattle.md_events.specs.Ahead.{from_ending, line_end}
 use Rattle.md_events.specs.Events.Nested.{enter_link, exit}
-use Rattle.md_exact.specs.Places.{TextLine, line_end as end_of, place}
-use Rattle.md_exact.specs.Rows.{FirstText, Row}
+use Rattle.md_events.specs.Exact.Places.{TextLine, line_end as end_of, place}
+use Rattle.md_events.specs.Exact.Rows.{FirstText, Row}
 use Rattle.md_flow.proofs.LineRule.Leaf.{next-begins, next-end, next-stop, steps-leave}
 use Rattle.md_flow.proofs.LineRule.Lines.{flow_has}
 use Rattle.md_flow.specs.LineRule.{IsNext, IsTaken}

@@ -10,8 +10,8 @@ use Rattle.md_engine.specs.Meaning.{Cell, Here, Outcome}
 use Rattle.md_events.specs.Look.{first_seen}
 use Rattle.md_events.specs.Spaces.{IsRest, ends_line}
 use Rattle.md_events.proofs.RestCells.{rest_cells}
-use Rattle.md_exact.specs.Places.{past, place}
-use Rattle.md_exact.specs.Rows.{Row}
+use Rattle.md_events.specs.Exact.Places.{past, place}
+use Rattle.md_events.specs.Exact.Rows.{Row}
 use Rattle.md_link_definitions.specs.DefinitionRule.{DefinitionParts, definition_at, definition_end, definition_events}
 use Rattle.md_link_definitions.specs.DefinitionRule.{definition_parts, definition_rest}
 use Rattle.md_link_definitions.proofs.DefinitionWhole.{definition-whole, moved, taken_definition}

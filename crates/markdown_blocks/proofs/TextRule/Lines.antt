@@ -11,8 +11,8 @@ use Rattle.md_events.proofs.FeedLines.{NoFeed}
 use Rattle.md_events.proofs.RestCells.{rest_cells}
 use Rattle.md_events.specs.Ahead.{point_after}
 use Rattle.md_events.specs.Events.Nested.{exit}
-use Rattle.md_exact.specs.Places.{next_line, place}
-use Rattle.md_exact.specs.Rows.{Row}
+use Rattle.md_events.specs.Exact.Places.{next_line, place}
+use Rattle.md_events.specs.Exact.Rows.{Row}
 use Rattle.md_meaning.specs.Rest.{is_blank}
 use Rattle.markdown_blocks.specs.TextRule.{breaks_of, cells_of, no_line}
 use Rattle.proof_content_laws.proofs.Defined.Along.{IsCell, Turn, breaks}

@@ -39,8 +39,8 @@ use Rattle.md_content.proofs.ContentReadsLemmas.{skipping-same}
 use Rattle.md_content.proofs.States.{content_keeps_valid, content_table_means}
 use Rattle.md_events.specs.Spaces.{IsRest}
 use Rattle.md_events.specs.Transition.{Transition, entered, exited, taken}
-use Rattle.md_exact.specs.Places.{place}
-use Rattle.md_exact.specs.Rows.{Row}
+use Rattle.md_events.specs.Exact.Places.{place}
+use Rattle.md_events.specs.Exact.Rows.{Row}
 use Rattle.md_link_definitions.specs.DefinitionRule.{definition_at}
 use Rattle.markdown_blocks.specs.TextMet.{AreMet, TextsMet, begins_block, chunks_of, lines_begin}
 use Rattle.markdown_blocks.specs.TextRule.{AreLeft, IsDefined, cells_of, ending_before, is_defined, is_text}

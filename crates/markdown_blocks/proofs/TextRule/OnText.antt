@@ -17,7 +17,7 @@ use Rattle.md_events.proofs.InlineLemmas.{past-index}
 use Rattle.md_events.proofs.PlacesLemmas.{Placed, at-next, placed-facts}
 use Rattle.md_events.proofs.ReachedLemmas.{point-placed}
 use Rattle.md_events.specs.Events.Places.{columns_before, past_text, within_tab}
-use Rattle.md_exact.specs.Places.{TextLine}
+use Rattle.md_events.specs.Exact.Places.{TextLine}
 use Rattle.md_flow.specs.LineRule.{IsNext}
 use Rattle.md_meaning.proofs.TextsLemmas.{NoEnding}
 use Rattle.md_meaning.specs.Lines.{is_ending}

@@ -16,10 +16,10 @@ use Rattle.md_events.proofs.RestCells.{Cut, past_cut, rest-end, rest_cells}
 use Rattle.md_events.specs.Ahead.{point_after}
 use Rattle.md_events.specs.Events.Nested.{around, enter, enter_link, exit}
 use Rattle.md_events.specs.Events.Places.{past_text}
-use Rattle.md_exact.specs.Leaves.{start}
-use Rattle.md_exact.specs.Places.{chunk, is_same, line_end, next_line, place}
-use Rattle.md_exact.specs.Rows.{Row}
-use Rattle.md_exact.specs.Texts.{chunks, remaining, text_span}
+use Rattle.md_events.specs.Exact.Leaves.{start}
+use Rattle.md_events.specs.Exact.Places.{chunk, is_same, line_end, next_line, place}
+use Rattle.md_events.specs.Exact.Rows.{Row}
+use Rattle.md_events.specs.Exact.Texts.{chunks, remaining, text_span}
 use Rattle.md_meaning.specs.Rest.{cut_tab, is_blank}
 use Rattle.markdown_blocks.specs.TextRule.{IsParagraphTaken, breaks_of, no_line}
 use Rattle.markdown_blocks.proofs.TextRule.Lines.{AreFilled, AreNext, NextLine, breaks-are, lays-all, next-line}

@@ -12,11 +12,11 @@ use Rattle.md_engine.specs.World.{World}
 use Rattle.md_content.specs.ContentReads.{part_world}
 use Rattle.md_events.specs.declared.inline.Chunk.{Chunk}
 use Rattle.md_events.specs.Events.Places.{past_text}
-use Rattle.md_exact.specs.Blocks.{grouped}
-use Rattle.md_exact.specs.Places.{TextLine, line_end, lines_from, next_line, place}
-use Rattle.md_exact.proofs.OnLine.{place-on}
-use Rattle.md_exact.specs.Rows.{AfterCode, First, Further, Head, Role, Row, Underline}
-use Rattle.md_exact.specs.Rows.{rows_of as exact_rows}
+use Rattle.md_events.specs.Exact.Blocks.{grouped}
+use Rattle.md_events.specs.Exact.Places.{TextLine, line_end, lines_from, next_line, place}
+use Rattle.proof_exact_pieces.proofs.OnLine.{place-on}
+use Rattle.md_events.specs.Exact.Rows.{AfterCode, First, Further, Head, Role, Row, Underline}
+use Rattle.md_events.specs.Exact.Rows.{rows_of as exact_rows}
 use Rattle.md_meaning.specs.State.{Leaf, NoLeaf, OpenCode, OpenParagraph}
 use Rattle.md_meaning.specs.Rest.{Rest, is_blank}
 use Rattle.markdown_blocks.specs.TextMet.{chunks_of, lines_begin}

@@ -10,10 +10,10 @@ use Rattle.md_engine.specs.declared.event.Name.TheVariants as n
 use Rattle.md_engine.specs.declared.event.Point.{Point}
 use Rattle.md_literal.specs.Fence.{block_name, may_begin as is_begun}
 use Rattle.md_events.specs.Events.Nested.{around}
-use Rattle.md_exact.specs.Leaves.{content_line, fence_part, fenced_line, info_parts, leaf}
-use Rattle.md_exact.specs.Places.{TextLine, line_end, place, white}
-use Rattle.md_exact.specs.Blocks.{bare_events}
-use Rattle.md_exact.specs.Rows.{First, FirstText, Further, Role, Row}
+use Rattle.md_events.specs.Exact.Leaves.{content_line, fence_part, fenced_line, info_parts, leaf}
+use Rattle.md_events.specs.Exact.Places.{TextLine, line_end, place, white}
+use Rattle.md_events.specs.Exact.Blocks.{bare_events}
+use Rattle.md_events.specs.Exact.Rows.{First, FirstText, Further, Role, Row}
 use Rattle.md_leaves.specs.HeadingSetext.{may_turn}
 use Rattle.md_leaves.specs.HeadingSetext as setext
 use Rattle.md_leaves.specs.HeadingSetextRule.{is_underline}

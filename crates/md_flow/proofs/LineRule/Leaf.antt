@@ -17,8 +17,8 @@ use Rattle.md_engine.specs.World.{World, looks}
 use Rattle.md_events.proofs.RestCells.{rest_cells}
 use Rattle.md_events.specs.Ahead.{from_ending, line_bytes, line_end as cells_end}
 use Rattle.md_events.specs.Spaces.{IsRest, any_size}
-use Rattle.md_exact.specs.Places.{TextLine, line_end, place}
-use Rattle.md_exact.specs.Rows.{Role}
+use Rattle.md_events.specs.Exact.Places.{TextLine, line_end, place}
+use Rattle.md_events.specs.Exact.Rows.{Role}
 use Rattle.md_meaning.specs.Rest.{Rest, is_blank}
 use Rattle.md_meaning.specs.State.{Leaf}
 use Rattle.md_registry.proofs.Registry.{construct-steps, leaf-states}

@@ -19,8 +19,8 @@ use Rattle.md_content.specs.Chunks.{content_link}
 use Rattle.md_events.proofs.RestCells.{rest_cells}
 use Rattle.md_events.specs.Ahead.{from_ending, line_end as cells_end}
 use Rattle.md_events.specs.Events.Nested.{enter_link, exit}
-use Rattle.md_exact.specs.Places.{TextLine, line_end, place}
-use Rattle.md_exact.specs.Rows.{FirstText, FurtherText, Role, Row}
+use Rattle.md_events.specs.Exact.Places.{TextLine, line_end, place}
+use Rattle.md_events.specs.Exact.Rows.{FirstText, FurtherText, Role, Row}
 use Rattle.md_meaning.specs.Rest.{Rest}
 use Rattle.md_meaning.specs.State.{Leaf}
 use Rattle.md_registry.proofs.Registry.{container-states, leaf-states, white_has}

@@ -25,8 +25,8 @@ use Rattle.md_containers.specs.ItemPrefix.{ItemPassed, item_new}
 use Rattle.md_containers.specs.QuoteRule.{takes_prefix}
 use Rattle.md_events.proofs.RestCells.{past_rest, rest_cells}
 use Rattle.md_events.specs.Spaces.{IsRest}
-use Rattle.md_exact.specs.Places.{TextLine}
-use Rattle.md_exact.specs.Prefixes.{further_prefix}
+use Rattle.md_events.specs.Exact.Places.{TextLine}
+use Rattle.md_events.specs.Exact.Prefixes.{further_prefix}
 use Rattle.md_meaning.specs.Containers.{Taken, continues, opens_footnote, opens_item}
 use Rattle.md_meaning.specs.Rest.{Rest}
 use Rattle.md_meaning.specs.State.{Container, InFootnote, InItem, InQuote}

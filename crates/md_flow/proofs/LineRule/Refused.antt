@@ -9,8 +9,8 @@ use Rattle.md_engine.specs.Meaning.{Cell, Here, Outcome}
 use Rattle.md_events.specs.Ahead.{from_ending, line_bytes}
 use Rattle.md_events.specs.Look.{first_seen}
 use Rattle.md_events.specs.Spaces.{IsRest, any_size}
-use Rattle.md_exact.specs.Places.{TextLine}
-use Rattle.md_exact.specs.Rows.{Further, Role}
+use Rattle.md_events.specs.Exact.Places.{TextLine}
+use Rattle.md_events.specs.Exact.Rows.{Further, Role}
 use Rattle.md_meaning.specs.Leaves.{LeafResult, is_continued}
 use Rattle.md_meaning.specs.Rest.{Rest, is_blank}
 use Rattle.md_meaning.specs.State.{Leaf, NoLeaf, OpenCode, OpenFence, OpenHtml, OpenParagraph, OpenTable}

@@ -7,7 +7,7 @@ use Rattle.md_engine.specs.declared.configuration.ParseOptions.{ParseOptions}
 use Rattle.md_engine.specs.declared.tokenizer.held_leaf.HeldLeaf.{HeldLeaf}
 use Rattle.md_engine.specs.declared.tokenizer.held_leaf.HeldLeaf.TheVariants as held_leaf
 use Rattle.md_literal.specs.Code.{may_open}
-use Rattle.md_exact.specs.Rows.{Delimiter, First, Further, Role, Underline}
+use Rattle.md_events.specs.Exact.Rows.{Delimiter, First, Further, Role, Underline}
 use Rattle.md_leaves.specs.HeadingSetext.{may_turn}
 use Rattle.md_leaves.specs.HeadingSetext as setext
 use Rattle.md_leaves.specs.HeadingSetextRule.{is_underline}

@@ -3,7 +3,7 @@ use Rattle.md_engine.specs.declared.event.Event.{Event}
 use Rattle.md_events.specs.Events.Inline.{Part}
 use Rattle.md_events.specs.Events.Tiles.{IsBlockList}
 use Rattle.md_events.specs.TextPart.{AreBlocks, Document, document_of}
-use Rattle.md_exact.specs.Blocks.{exact}
+use Rattle.md_events.specs.Exact.Blocks.{exact}
 use Rattle.markdown_blocks.specs.Parsed.{IsWithoutMdx}
 use Rattle.markdown_blocks.specs.PartPlaces.{IsListedAt, IsPartAt}
 use Rattle.markdown_blocks.proofs.PlaceOnce.{place-once}

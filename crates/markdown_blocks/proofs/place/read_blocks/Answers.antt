@@ -6,7 +6,7 @@ use Rattle.md_engine.specs.Place.{IsPlaced}
 use Rattle.md_engine.specs.World.{Setting, world}
 use Rattle.md_engine.specs.declared.event.Event.{Event}
 use Rattle.md_events.specs.Parts.{ArePlaced}
-use Rattle.md_exact.specs.Blocks.{exact}
+use Rattle.md_events.specs.Exact.Blocks.{exact}
 use Rattle.markdown_blocks.proofs.TextBlocks.{blocks-read}
 use Rattle.markdown_blocks.proofs.place.read_blocks.Goals as goal
 

@@ -1,7 +1,7 @@
 use Rattle.std.proofs.Common.{ℕ, List, ap, ◌∙◌}
 use Rattle.md_events.specs.Lined.{lined}
 use Rattle.md_events.specs.TextPart.{wants_text}
-use Rattle.md_exact.specs.Blocks.{exact}
+use Rattle.md_events.specs.Exact.Blocks.{exact}
 use Rattle.markdown_blocks.proofs.PartFront.{parsed-lined}
 use Rattle.markdown_blocks.proofs.parts.Parts.with_least.Goals as goal
 

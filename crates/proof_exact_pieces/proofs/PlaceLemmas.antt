@@ -12,7 +12,7 @@ use Rattle.md_events.proofs.InlineLemmas.{past-index}
 use Rattle.md_events.proofs.PlacesLemmas.{Placed, placed-text}
 use Rattle.md_meaning.proofs.TextsLemmas.{NoEnding}
 use Rattle.md_events.proofs.RestCells.{RestAt}
-use Rattle.md_exact.specs.Places.{TextLine, place}
+use Rattle.md_events.specs.Exact.Places.{TextLine, place}
 
 -- a line is in a text, with this after its bytes
 pub record LineOf (text following : List ℕ) (line : TextLine) : Type 0 where

@@ -14,9 +14,9 @@ use Rattle.md_meaning.specs.State.{Path, cut, spot, texts}
 use Rattle.md_meaning.specs.Step.{step, with_lazy}
 use Rattle.md_meaning.specs.Tree.{End}
 use Rattle.md_events.specs.Events.Nested.{exit}
-use Rattle.md_exact.specs.Places.{TextLine, line_end, place, whole}
-use Rattle.md_exact.specs.Prefixes.{begins, following_all, containers, further_prefixes, taken_prefixes, list_name}
-use Rattle.md_exact.specs.Prefixes.{new_containers}
+use Rattle.md_events.specs.Exact.Places.{TextLine, line_end, place, whole}
+use Rattle.md_events.specs.Exact.Prefixes.{begins, following_all, containers, further_prefixes, taken_prefixes, list_name}
+use Rattle.md_events.specs.Exact.Prefixes.{new_containers}
 
 -- What a line is, after the prefixes of its containers.
 pub data Role : Type 0 where

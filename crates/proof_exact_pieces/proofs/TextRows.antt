@@ -19,7 +19,7 @@ use Rattle.md_meaning.specs.Leaves.{break_at, heading_at, code_at, code_continue
 use Rattle.md_meaning.specs.Leaves.{html_continued, starts, table_continued, underline_depth, underlined, table_at}
 use Rattle.md_meaning.specs.Step.{fresh_line, text_line, all_continued, stopped}
 use Rattle.md_events.specs.Events.Nested.{around, pair}
-use Rattle.md_exact.specs.Blocks.{exact}
+use Rattle.md_events.specs.Exact.Blocks.{exact}
 use Rattle.md_events.proofs.EventRowParts.{at, chunk, string_chunk}
 
 -- "[a]: b\n===\n"

@@ -17,11 +17,11 @@ use Rattle.md_meaning.specs.Tree.{Bare, End, Heading, Html}
 use Rattle.md_events.specs.Events.Names.{bare_names}
 use Rattle.md_events.specs.Events.Nested.{pair}
 use Rattle.md_events.specs.Events.Places.{first_point}
-use Rattle.md_exact.specs.Leaves.{content_line, fence, heading_line, joined, leaf, runs_line, table}
-use Rattle.md_exact.specs.Places.{TextLine, ending, line_end, lines_from, part, past, piece, white, whole}
-use Rattle.md_exact.specs.Rows.{AfterCode, Blank, Delimiter, First, FirstText, Further, FurtherText, Head, Role, Row}
-use Rattle.md_exact.specs.Rows.{Underline, is_blank_role, rows_of}
-use Rattle.md_exact.specs.Texts.{text}
+use Rattle.md_events.specs.Exact.Leaves.{content_line, fence, heading_line, joined, leaf, runs_line, table}
+use Rattle.md_events.specs.Exact.Places.{TextLine, ending, line_end, lines_from, part, past, piece, white, whole}
+use Rattle.md_events.specs.Exact.Rows.{AfterCode, Blank, Delimiter, First, FirstText, Further, FurtherText, Head, Role, Row}
+use Rattle.md_events.specs.Exact.Rows.{Underline, is_blank_role, rows_of}
+use Rattle.md_events.specs.Exact.Texts.{text}
 
 -- The front of a text.
 

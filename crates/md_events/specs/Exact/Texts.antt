@@ -16,9 +16,9 @@ use Rattle.md_meaning.specs.Definition.{after_gap, definition_at, destination_at
 use Rattle.md_meaning.specs.Enclosed.{enclosed_lines}
 use Rattle.md_meaning.specs.Rest.{Rest, after_indent}
 use Rattle.md_meaning.specs.Texts.{first_byte, trim_further}
-use Rattle.md_exact.specs.Leaves.{first_end, last_end, leaf, onto_next, runs_line, span, start}
-use Rattle.md_exact.specs.Places.{chunk, is_same, line_end, next_line, past, piece, white}
-use Rattle.md_exact.specs.Rows.{Role, Row, Underline}
+use Rattle.md_events.specs.Exact.Leaves.{first_end, last_end, leaf, onto_next, runs_line, span, start}
+use Rattle.md_events.specs.Exact.Places.{chunk, is_same, line_end, next_line, past, piece, white}
+use Rattle.md_events.specs.Exact.Rows.{Role, Row, Underline}
 
 -- Places in a text.
 

@@ -22,8 +22,8 @@ use Rattle.md_events.proofs.LostColumns.{column-step, lose-bare}
 use Rattle.md_events.proofs.PlacesLemmas.{Placed, at-next, placed-text}
 use Rattle.md_events.proofs.ReachedLemmas.{placed-next}
 use Rattle.md_events.proofs.RestCells.{Cut, HasColumn, RestAt, bare-cells, column-first, rest_cells, without_first}
-use Rattle.md_exact.specs.Places.{TextLine, past, place, whole}
-use Rattle.md_exact.proofs.PlaceLemmas.{LineOf, before-is, line_start, placed-place, past-column, no_ending-take}
+use Rattle.md_events.specs.Exact.Places.{TextLine, past, place, whole}
+use Rattle.proof_exact_pieces.proofs.PlaceLemmas.{LineOf, before-is, line_start, placed-place, past-column, no_ending-take}
 
 -- a line of the text, which begins at a point of it
 pub record LineIn (text following : List ℕ) (line : TextLine) : Type 0 where

@@ -19,9 +19,9 @@ use Rattle.md_events.proofs.FeedLines.{columns_more}
 use Rattle.md_events.proofs.PlacesLemmas.{Placed}
 use Rattle.md_events.proofs.RestCells.{Cut, RestAt}
 use Rattle.md_events.proofs.WalkedLemmas.{one-point}
-use Rattle.md_exact.specs.Places.{TextLine, chunk, is_same, part, piece, place, text_part, white}
-use Rattle.md_exact.proofs.OnLine.{LineIn, OnLine, place-on}
-use Rattle.md_exact.proofs.PlaceLemmas.{cut_len, length-cut}
+use Rattle.md_events.specs.Exact.Places.{TextLine, chunk, is_same, part, piece, place, text_part, white}
+use Rattle.proof_exact_pieces.proofs.OnLine.{LineIn, OnLine, place-on}
+use Rattle.proof_exact_pieces.proofs.PlaceLemmas.{cut_len, length-cut}
 
 -- What is left of a text at a rest.
 rest-length : (text following : List ℕ) (r : Rest) (p : Point) → RestAt text following r p →

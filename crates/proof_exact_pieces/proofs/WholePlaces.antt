@@ -8,9 +8,9 @@ use Rattle.md_meaning.specs.Rest.{Rest}
 use Rattle.md_events.specs.Events.Places.{columns_from, past_text}
 use Rattle.md_events.proofs.FeedLines.{past_text-whole}
 use Rattle.md_events.proofs.InlineLemmas.{past-index}
-use Rattle.md_exact.specs.Places.{TextLine, line_end, past, place, whole}
-use Rattle.md_exact.proofs.OnLine.{past-line}
-use Rattle.md_exact.proofs.PlaceLemmas.{before, columns_at, cut_len, line_start, past-column}
+use Rattle.md_events.specs.Exact.Places.{TextLine, line_end, past, place, whole}
+use Rattle.proof_exact_pieces.proofs.OnLine.{past-line}
+use Rattle.proof_exact_pieces.proofs.PlaceLemmas.{before, columns_at, cut_len, line_start, past-column}
 
 -- a rest after these bytes, before those
 pub place-at : (line : TextLine) (r : Rest) (front rest : List ℕ) → line.bytes ≡ front ++ rest → r.bytes ≡ rest →

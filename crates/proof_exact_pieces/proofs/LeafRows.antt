@@ -16,7 +16,7 @@ use Rattle.md_meaning.specs.Containers.{opens_footnote}
 use Rattle.md_meaning.specs.Leaves.{break_at, heading_at, code_at, code_continued, fence_at, fence_continued, html_at}
 use Rattle.md_meaning.specs.Leaves.{html_continued, starts, table_continued, underline_depth, underlined, table_at}
 use Rattle.md_meaning.specs.Step.{fresh_line, text_line, all_continued, stopped}
-use Rattle.md_exact.specs.Blocks.{exact}
+use Rattle.md_events.specs.Exact.Blocks.{exact}
 use Rattle.md_events.proofs.EventRows.{empty_text, empty_events, blank_text, blank_events, mark_text, mark_events}
 use Rattle.md_events.proofs.EventRows.{paragraph_text, paragraph_events, break_text, break_events, heading_text}
 use Rattle.md_events.proofs.EventRows.{heading_events, empty_heading_text, empty_heading_events, underlined_text}

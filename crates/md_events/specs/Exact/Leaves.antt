@@ -15,8 +15,8 @@ use Rattle.md_meaning.specs.State.{Opening}
 use Rattle.md_meaning.specs.Texts.{first_byte}
 use Rattle.md_events.specs.Events.Nested.{around}
 use Rattle.md_events.specs.Events.Places.{first_point}
-use Rattle.md_exact.specs.Places.{TextLine, ending, line_end, part, past, piece, place, text_part, white}
-use Rattle.md_exact.specs.Rows.{Row}
+use Rattle.md_events.specs.Exact.Places.{TextLine, ending, line_end, part, past, piece, place, text_part, white}
+use Rattle.md_events.specs.Exact.Rows.{Row}
 
 -- Leaves of several lines.
 

@@ -15,7 +15,7 @@ use Rattle.md_meaning.specs.State.{Container, InQuote, InItem, InFootnote, Path,
 use Rattle.md_meaning.specs.Step.{is_concrete, is_open_text}
 use Rattle.md_meaning.specs.Tree.{Block, Item, Blocks, End, More}
 use Rattle.md_events.specs.Events.Nested.{enter}
-use Rattle.md_exact.specs.Places.{TextLine, part, past, piece, place, text_part, white}
+use Rattle.md_events.specs.Exact.Places.{TextLine, part, past, piece, place, text_part, white}
 
 -- the open containers, the outermost first
 abbrev pub containers : Path → List Container
