@@ -51,6 +51,6 @@ pub mod PartEvents
 pub mod PartNext
 pub mod PartWhole
 pub mod PartFront
-mod PlaceOnce
+pub mod PlaceOnce
 mod PlacedParts
 mod PartWalk

@@ -1,4 +1,4 @@
--- A text part is once in a block list: its first chunk is not empty and begins where the part does, the points of
+-- A text part is once in a block list, so a part of a document has one place: its first chunk is not empty and begins where the part does, the points of
 -- events never go back, and no text part is inside of another.
 use Rattle.std.proofs.Common.{◌≡◌, ℕ, zero, suc, ◌-◌, ◌<◌, ◌≤◌, ◌⊎◌, inl, inr, Bool, true, false, cond, ◌&&◌, ◌||◌}
 use Rattle.std.proofs.Common.{List, [], ◌∷◌, ◌++◌, take, drop, refl, ap, sym, ◌∙◌, subst, arith}
@@ -22,7 +22,8 @@ use Rattle.md_events.specs.Events.Places.{at_or_before, first_point, same_place}
 use Rattle.md_events.specs.Events.Tiles.{IsBlockList, are_whole_parts, begins_at, chunks, chunks_in_parts}
 use Rattle.md_events.specs.Events.Tiles.{depth_following, inside_part, is_chunk, is_part, is_white_piece, is_whole_part}
 use Rattle.md_events.specs.Events.Tiles.{links_kind, may_be_in_part, part_at, part_end, part_kind, part_of}
-use Rattle.md_events.specs.TextPart.{place_of}
+use Rattle.md_events.specs.Exact.Blocks.{exact}
+use Rattle.md_events.specs.TextPart.{Document, IsTextPartAt, place_of}
 use Rattle.md_events.proofs.NestedLemmas.{at_or_before-trans, forward-last, matches-rest}
 use Rattle.markdown_blocks.specs.PartPlaces.{IsPartAt}
 
@@ -399,3 +400,25 @@ place-once bytes blocks part one other list a b =
             b.among b.begins a.begins r
       ])
     ]
+
+-- A text part of a document has one place.
+
+listed : (document : Document) (part : Part) (place : PartPlace) → IsTextPartAt document part place →
+    IsPartAt (exact document.options document.bytes) part place
+listed document part place is =
+    subst (λ (l : List Event). IsPartAt l part place) is.are.exact_list
+    (record {
+      before = is.before;
+      begin = is.begin;
+      following = is.following;
+      among = is.among;
+      begins = is.begins;
+      place_is = is.place_is;
+    })
+
+pub one-place : (document : Document) (part : Part) (one other : PartPlace) → IsTextPartAt document part one →
+    IsTextPartAt document part other → one ≡ other
+one-place document part one other a b =
+    place-once document.bytes (exact document.options document.bytes) part one other
+    (subst (IsBlockList document.bytes) a.are.exact_list a.are.list) (listed document part one a)
+    (listed document part other b)

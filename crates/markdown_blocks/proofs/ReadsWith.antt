@@ -77,6 +77,7 @@ module _ (state : ParseState) (start : Point) (found : Found) (new : World) (mar
   -- and all labels are known.
   known : AreBlocks (document_of state) (exact state.options.now state.bytes.now)
   known = record {
+    exact_list = refl;
     sized = ahead.small;
     list = has.list;
     covers = has.covers;
@@ -154,6 +155,7 @@ blocks-again document known blocks built are is placed =
     (events-placed document.bytes (exact document.options document.bytes) (subst (ArePlaced document.bytes) is placed)) in
     subst (AreBlocks document) (sym is)
     (record {
+      exact_list = refl;
       sized = are.sized;
       list = has.list;
       covers = has.covers;

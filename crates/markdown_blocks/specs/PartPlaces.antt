@@ -9,7 +9,6 @@ use Rattle.md_events.specs.Events.Nested.{is_exit}
 use Rattle.md_events.specs.Events.Tiles.{chunks, inside_part, is_part, part_at, part_kind}
 use Rattle.md_events.specs.Substituted.{chunk_of}
 use Rattle.md_events.specs.TextPart.{Document, IsTextPartAt, is_of_block, place_by, place_of}
-use Rattle.md_events.specs.Exact.Blocks.{exact}
 
 -- whether a chunk begins with an event inside of a text part, by the events after it
 abbrev pub begins_chunk : Event → List Event → Bool
@@ -65,12 +64,7 @@ pub record IsPartAt (blocks : List Event) (part : Part) (place : PartPlace) : Ty
   pub begins : part_at begin.kind (part_kind begin.name) following ≡ part ∷ []
   pub place_is : place ≡ place_of before begin
 
--- In the exact list of its events, a text part of a document is at this place.
-abbrev pub IsListedAt : Document → Part → PartPlace → Type 0
-IsListedAt document part place = IsPartAt (exact document.options document.bytes) part place
-
--- The place of a text part of a document: it is there in the exact list, and nowhere else in it.
+-- The place of a text part of a document: it is there, and nowhere else.
 pub record IsPlaceOf (document : Document) (part : Part) (place : PartPlace) : Type 0 where
   pub at : IsTextPartAt document part place
-  pub listed : IsListedAt document part place
-  pub only : (other : PartPlace) → IsListedAt document part other → other ≡ place
+  pub only : (other : PartPlace) → IsTextPartAt document part other → other ≡ place

@@ -1,5 +1,5 @@
 -- What the layer's steps give are the events of a part.
-use Rattle.std.proofs.Common.{◌≡◌, ℕ, Bool, List, [], ◌++◌, map, ap, ◌∙◌}
+use Rattle.std.proofs.Common.{◌≡◌, ℕ, Bool, List, [], ◌++◌, map, ap, sym, ◌∙◌}
 use Rattle.std.specs.Prelude.{string_bytes}
 use Rattle.md_engine.specs.declared.event.Event.{Event}
 use Rattle.md_meaning.specs.Label as meaning
@@ -15,7 +15,8 @@ use Rattle.md_inline_events.specs.Woven.{read_text, woven_events}
 use Rattle.md_inlines.specs.declared.InlineOptions.{InlineOptions}
 use Rattle.md_inlines.specs.Content.{content}
 use Rattle.md_inlines.specs.Targets.{string}
-use Rattle.markdown_inlines.specs.Layer.{AreEvents, AreTheEvents, MeansAsAt, inline_events, labels_in}
+use Rattle.markdown_blocks.proofs.PlaceOnce.{one-place}
+use Rattle.markdown_inlines.specs.Layer.{AreEvents, MeansAsAt, inline_events, labels_in}
 use Rattle.markdown_inlines.specs.Layer.{may_have_check, part_forest}
 use Rattle.markdown_inlines.specs.Given.{labels_of}
 use Rattle.markdown_inlines.proofs.StringTokens.{live-tokens}
@@ -80,7 +81,11 @@ pub events-of : (options : InlineOptions) (document : Document) (held : Part) (p
 events-of options document held place events means is =
     record { place = means.own; at = means.at; same = is ∙ means.same }
 
-pub listed-of : (options : InlineOptions) (document : Document) (held : Part) (place : PartPlace)
-    (events : List Event) → MeansAsAt options document held place →
-    events ≡ inline_events options document place held → AreTheEvents options document held events
-listed-of options document held place events means is = λ other at. is ∙ means.listed other at
+-- A part has one place, and so one list of events.
+pub events-once : (options : InlineOptions) (document : Document) (held : Part) (events found : List Event) →
+    AreEvents options document held events → AreEvents options document held found → events ≡ found
+events-once options document held events found is also =
+    is.same
+    ∙ ap (λ (p : PartPlace). inline_events options document p held)
+    (one-place document held is.place also.place is.at also.at)
+    ∙ sym also.same

@@ -125,7 +125,6 @@ anywhere options document held place is none =
       own = found.0;
       at = found.1;
       same = ap (λ (f : Forest). woven_events document.bytes held f) (same held.kind found.0 none);
-      listed = λ other at. ap (λ (f : Forest). woven_events document.bytes held f) (same held.kind other none);
     }
   where
     same : (of : PartKind) (own : PartPlace) → place_matters options of (read_text document.bytes held) ≡ false →
@@ -139,9 +138,4 @@ anywhere options document held place is none =
 -- where it is
 pub means-at : (options : InlineOptions) (document : Document) (held : Part) (place : PartPlace) →
     IsPlaceOf document held place → MeansAsAt options document held place
-means-at options document held place is = record {
-  own = place;
-  at = is.at;
-  same = refl;
-  listed = λ other at. ap (λ (p : PartPlace). inline_events options document p held) (sym (is.only other at));
-}
+means-at options document held place is = record { own = place; at = is.at; same = refl }

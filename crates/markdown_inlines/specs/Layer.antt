@@ -14,7 +14,6 @@ use Rattle.md_inlines.specs.declared.InlineOptions.{InlineOptions}
 use Rattle.md_inlines.specs.Content.{content}
 use Rattle.md_inlines.specs.Task.{is_task}
 use Rattle.md_inlines.specs.Targets.{string}
-use Rattle.markdown_blocks.specs.PartPlaces.{IsListedAt}
 
 -- the labels of a document
 abbrev pub labels_in : Document → meaning.Labels
@@ -36,17 +35,12 @@ inline_events options document place held =
     woven_events document.bytes held
     (part_forest options (labels_in document) place held.kind (read_text document.bytes held))
 
--- What the layer gives for a part of a document: its events, by where it is.
+-- What the layer gives for a part of a document: its events, by where it is in the exact list, in which it has one place
+-- (`a_part_has_one_list_of_events` of `laws`).
 pub record AreEvents (options : InlineOptions) (document : Document) (held : Part) (events : List Event) : Type 0 where
   pub place : PartPlace
   pub at : IsTextPartAt document held place
   pub same : events ≡ inline_events options document place held
-
--- The events of a part of a document by its place in the exact list, in which it has one at most: of a part of that
--- list they are one list, which the document, the part and the options determine.
-abbrev pub AreTheEvents : InlineOptions → Document → Part → List Event → Type 0
-AreTheEvents options document held events =
-    (place : PartPlace) → IsListedAt document held place → events ≡ inline_events options document place held
 
 -- The layer's own steps.
 
@@ -55,9 +49,8 @@ abbrev pub place_matters : InlineOptions → PartKind → List ℕ → Bool
 place_matters options kind.Text text = options.constructs.gfm_task_list_item && is_task text
 place_matters options kind.String text = false
 
--- A part means the same here as where it is, and as where it is in the exact list.
+-- A part means the same here as where it is.
 pub record MeansAsAt (options : InlineOptions) (document : Document) (held : Part) (place : PartPlace) : Type 0 where
   pub own : PartPlace
   pub at : IsTextPartAt document held own
   pub same : inline_events options document place held ≡ inline_events options document own held
-  pub listed : AreTheEvents options document held (inline_events options document place held)

@@ -7,11 +7,20 @@ ghost use Rattle.std.specs.Prelude.{◌≡◌, ℕ, true, List};
 ghost use Rattle.md_engine.specs.declared.configuration.ParseOptions as blocks;
 ghost use Rattle.md_engine.specs.declared.event.Event as event;
 ghost use Rattle.md_engine.specs.declared.parse_state.ParseState as parsed;
+ghost use Rattle.md_events.specs.Events.Inline as inline;
 ghost use Rattle.md_events.specs.TextPart.{Document, document_of};
 ghost use Rattle.md_inlines.specs.declared.InlineOptions as given;
 ghost use Rattle.md_meaning.specs.Wrapped.{IsItemable, IsQuotable, itemised, quoted};
 ghost use Rattle.md_wrap.specs.Footnoted.{footnoted, x_label};
 ghost use Rattle.markdown_inlines.specs.Alike.{HaveSameLabels, IsReadBy, MeanAlike, has_footnote};
+ghost use Rattle.markdown_inlines.specs.Layer.{AreEvents};
+
+/// A text part of a document has one list of events: it is at one place of the exact list, and `reads` of `Inlines` is
+/// by that place.
+pub fn a_part_has_one_list_of_events()
+    ensures { (inlines : given.InlineOptions) (document : Document) (held : inline.Part) (events found : List event.Event)
+        → AreEvents inlines document held events → AreEvents inlines document held found → events ≡ found }
+{}
 
 /// In documents with the same labels, parts of one kind with the same text mean the same, whatever else the documents
 /// have.

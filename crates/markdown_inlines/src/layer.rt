@@ -176,9 +176,6 @@ impl Inline for Inlines {
         ensures reads { IfOk result
             (λ events. spec.AreEvents self.now.options (document_of state.now)
             (record { kind = kind; chunks = chunks.now }) events.items) }
-        ensures one { IfOk result
-            (λ events. spec.AreTheEvents self.now.options (document_of state.now)
-            (record { kind = kind; chunks = chunks.now }) events.items) }
     {
         let mut events = Vec::new(alloc);
         self.read_into(alloc, kind, chunks, state, &mut events)?;
@@ -196,8 +193,6 @@ impl Inline for Inlines {
     ) -> Result<(), Message>
         requires { IsTextPart (document_of state.now) (record { kind = kind; chunks = chunks.now }) }
         ensures reads { OnOk result (spec.AreEvents self.now.options (document_of state.now)
-            (record { kind = kind; chunks = chunks.now }) events.new.items) }
-        ensures one { OnOk result (spec.AreTheEvents self.now.options (document_of state.now)
             (record { kind = kind; chunks = chunks.now }) events.new.items) }
     {
         let place = place_to_read_at(alloc, &self.options, kind, chunks, state)?;

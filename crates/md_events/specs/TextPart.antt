@@ -19,6 +19,7 @@ use Rattle.md_events.specs.declared.inline.PartKind.TheVariants as kind
 use Rattle.md_events.specs.declared.inline.PartPlace.{PartPlace}
 use Rattle.md_events.specs.declared.inline.PartPlace.TheVariants.{TableCell, ItemStart, Elsewhere}
 use Rattle.md_events.specs.declared.labels.Labels.{Labels}
+use Rattle.md_events.specs.Exact.Blocks.{exact}
 use Rattle.md_events.specs.Substituted.{Readings}
 use Rattle.md_events.specs.Events.Blocks.{is_block}
 use Rattle.md_events.specs.Events.Inline.{Covers, Part, pieces}
@@ -57,9 +58,10 @@ document_of state = record {
   footnotes = map string_bytes state.gfm_footnote_definitions.items;
 }
 
--- A document whose blocks are known, before its text parts are read: they spell its tree and tile it, and the labels
--- are all labels of that tree, those of definitions after a part too.
+-- A document whose blocks are known, before its text parts are read: they are the exact list of its text, which spells
+-- its tree and tiles it, and the labels are all labels of that tree, those of definitions after a part too.
 pub record AreBlocks (document : Document) (blocks : List Event) : Type 0 where
+  pub exact_list : blocks ≡ exact document.options document.bytes
   -- points have room for it
   pub sized : length document.bytes < 2 ^ 61
   pub list : IsBlockList document.bytes blocks
