@@ -20,7 +20,7 @@ STATEMENT = ("Rattle.markdown_blocks.specs.Parsed", "IsParsed")
 # what the lines of the standard mean, and what a list of events means
 MEANING = ("md_meaning",)
 READING = ("md_events", "md_outline")
-MOST, MOST_ELSE = 3200, 700
+MOST, MOST_ELSE = 3200, 60
 # what the calls of a line promise, by a behaviour; what that is at other states nobody has to believe
 LINES = "Rattle.md_flow.specs.LineRule"
 CALLS = ((LINES, "IsFirstCall"), (LINES, "IsLineCall"), (LINES, "IsMet"), (LINES, "IsMetFirst"), (LINES, "IsOpen"))

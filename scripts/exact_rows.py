@@ -1,5 +1,6 @@
 #!/usr/bin/env python3
-"""exact_rows.py: tries wrong definitions in the place of those of md_exact. Each must change the list of a small text."""
+"""exact_rows.py: tries wrong definitions in the place of those of the exact list. Each must change the list of a small
+text."""
 import os
 import re
 import sys
@@ -88,18 +89,18 @@ def options(setting):
 def rows(library):
     """By its name, each small text with its setting and its list."""
     for group in ROWS:
-        path = f"Rattle.md_exact.proofs.{group}Rows"
+        path = f"Rattle.proof_exact_pieces.proofs.{group}Rows"
         text, module = open(library.file(path), encoding="utf8").read(), library.module(path)
         for name, setting in re.findall(r"^  (\w+) : exact given\.(\w+) ", text, re.M):
             yield name, (options(setting), module.value(name + "_text"), module.value(name + "_events"))
 
 
 def holds(library, setting, text, events):
-    exact = library.module("Rattle.md_exact.specs.Blocks").value("exact")
+    exact = library.module("Rattle.md_events.specs.Exact.Blocks").value("exact")
     return antt.call(exact, setting, text) == events
 
 
 LIBRARY = antt.Library(CRATES)
 wrong_definitions.run(
-    "exact_rows", wrong_definitions.Rows(LIBRARY, "Rattle.md_exact.specs.{}".format, dict(rows(LIBRARY)), holds), WRONG,
+    "exact_rows", wrong_definitions.Rows(LIBRARY, "Rattle.md_events.specs.Exact.{}".format, dict(rows(LIBRARY)), holds), WRONG,
     "small texts of the exact list", "wrong definitions of the exact list")

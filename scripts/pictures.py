@@ -22,14 +22,14 @@ GROUPS = (
     ("The library", r"markdown_blocks|markdown_inlines|markdown_html",
      "parse, outline, wrap, the inline layer, HTML: what users name"),
     ("The machine", r"md_flow|md_at_once", "lines, read call by call and at once"),
-    ("Proofs of the exact list", r"proof_rows|proof_exact.*", "no code: the events of flow are the list of md_exact"),
+    ("Proofs of the exact list", r"proof_rows|proof_exact.*", "no code: the events of flow are the exact list"),
     ("Laws of constructs", r"proof_frame|proof_.*_laws|md_registry",
      "each construct seen by bytes, by cells and by lines; which there are, and in which order"),
     ("Constructs", r"md_leaves|md_literal|md_tables|md_link_definitions|md_content|md_containers|"
      r"md_order|md_resolve|md_outline|md_wrap", "states and their rules; resolvers, the outline, texts written into containers"),
     ("Inline layers", r"md_inline_.*|proof_inline.*|md_entities|md_inlines|reference_inlines",
      "what a text part means, and what a layer finds in it"),
-    ("Beliefs and the tokenizer", r"md_engine|md_meaning|md_events|md_exact|md_scan",
+    ("Beliefs and the tokenizer", r"md_engine|md_meaning|md_events|md_scan",
      "what a text means, what events are, and what calls states"),
 )
 

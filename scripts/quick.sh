@@ -168,7 +168,7 @@ while read -r file; do
         scripts/*.py) [ ! -f "$file" ] || step python3 -c 'import ast, sys; ast.parse(open(sys.argv[1]).read())' "$file" ;;
     esac
 done <"$work/changed"
-where_changed '^scripts/(exact_rows|antt|wrong_definitions)\.py|^crates/md_exact/' scripts/exact_rows.py
+where_changed '^scripts/(exact_rows|antt|wrong_definitions)\.py|^crates/(md_events/specs/Exact|proof_exact_pieces)/' scripts/exact_rows.py
 where_changed '^scripts/((inline_rows|antt|wrong_definitions)\.py|wrong_inlines)|^crates/md_inline' scripts/inline_rows.py
 where_changed '^scripts/believed\.py|^crates/.*/specs/' scripts/believed.py
 where_changed '^scripts/check_states\.py' scripts/check_states.py

@@ -8,9 +8,12 @@ for a hint where it ends first: `scripts/rt.py try` starts none. No proof depend
 runs as it is.
 
 A must-fail edit may name functions by lines `function: PATH`. Then it is refused where the proof of one of them fails with
-the edit, and those of all are found without it: `rt` proves the whole crate once more for the first edit. Edits of the
-bodies of single functions are tried at once, each of another function: no proof of a function sees the body of another.
-An edit that is not refused so is tried by itself, and then over the whole crate.
+the edit, and those of all are found without it. Edits of the bodies of single functions are tried at once, each of another
+function: no proof of a function sees the body of another. An edit that is not refused so is tried by itself, and then over
+the whole crate.
+
+Kits differ in how `rt ci` tries edits: one after another (`must_fail_all`), or each in a task of its own over what one
+more proof of the crate has left (`add_edits`), for which there is one task here, and no such proof.
 """
 import importlib.machinery
 import importlib.util
@@ -63,6 +66,11 @@ def functions_of(edit):
         return re.findall(r"^function: (\S+)$", file.read(), re.M)
 
 
+def only(names):
+    """The words for a check of these functions alone, and of what they call."""
+    return [word for name in dict.fromkeys(names) for word in ("--only", name)]
+
+
 def body_of(edit, text, old):
     """The function that a must-fail edit names, where it names one and this text is in its body; None where it is not."""
     names = functions_of(edit)
@@ -93,8 +101,8 @@ def bodies_together(rt, crate, edits):
     return texts, named
 
 
-def try_edits_by_function(rt):
-    """Has an edit be tried over the functions that it names, before it is tried over the whole crate."""
+def refuse_by_function(rt):
+    """Has a check of named functions end as one of a whole crate, where one of them is not proved."""
     checked = rt.checked
 
     def checked_functions(crate, texts, flags, kept):
@@ -105,43 +113,110 @@ def try_edits_by_function(rt):
             ran.stdout += "\nlogic=not-proved"
         return ran
 
-    def refused_together(crate, edits, flags, kept):
-        """The edits that are refused where they are tried at once, each with what is said of it. One whose function calls
-        that of another is tried again without the other."""
-        texts, named = bodies_together(rt, crate, edits)
-        if len(named) < 2:
-            return {}
-        whole = [*flags, *(word for name in named.values() for word in ("--only", name))]
-        ran = checked(crate, texts, whole, kept)
-        if ran.returncode != 1 or any(rt.unread(line, texts) for line in ran.stdout.split("\n")):
-            return {}
-        alone = r"(?!.*(?:it calls|it passes|a call of))"
-        failed = re.findall(rf"^fn (\S+): (?:not proved|no proof){alone}", ran.stdout, re.M)
-        said = "refused, as it must be, beside others: the proof of {} fails"
-        refused = {
-            edit: (True, f"must-fail {crate.name}/{os.path.basename(edit)}: {said.format(name)}")
-            for edit, name in named.items()
-            if f"{crate.name}::{name}" in failed
-        }
-        left = [edit for edit in edits if edit not in refused] if refused else []
-        return {**refused, **(refused_together(crate, left, flags, kept) if left else {})}
+    rt.checked = checked_functions
+
+
+def refused_together(rt, crate, edits, flags, kept):
+    """The edits that are refused where they are tried at once, each with what is said of it. One whose function calls
+    that of another is tried again without the other."""
+    texts, named = bodies_together(rt, crate, edits)
+    if len(named) < 2:
+        return {}
+    ran = rt.checked(crate, texts, [*flags, *only(named.values())], kept)
+    if ran.returncode != 1 or any(rt.unread(line, texts) for line in ran.stdout.split("\n")):
+        return {}
+    alone = r"(?!.*(?:it calls|it passes|a call of))"
+    failed = re.findall(rf"^fn (\S+): (?:not proved|no proof){alone}", ran.stdout, re.M)
+    said = "refused, as it must be, beside others: the proof of {} fails"
+    refused = {
+        edit: (getattr(rt, "REFUSED", True), f"must-fail {crate.name}/{os.path.basename(edit)}: {said.format(name)}")
+        for edit, name in named.items()
+        if f"{crate.name}::{name}" in failed
+    }
+    left = [edit for edit in edits if edit not in refused] if refused else []
+    return {**refused, **(refused_together(rt, crate, left, flags, kept) if left else {})}
+
+
+def refused_by_function(rt, crate, edits, flags, kept):
+    """The edits that the functions that they name refuse, each with what is said of it; none where those are not proved
+    without them. Checks begin with what the folder `kept` has."""
+    named = [edit for edit in edits if functions_of(edit)]
+    every = [name for edit in named for name in functions_of(edit)]
+    tried = refused_together(rt, crate, named, flags, kept)
+    for edit in named:
+        if edit not in tried:
+            tried[edit] = rt.must_fail(crate, edit, [*flags, *only(functions_of(edit))], kept)
+    if named and rt.checked(crate, {}, [*flags, *only(every)], kept).returncode:
+        return {}
+    return {edit: it for edit, it in tried.items() if it[0] in (True, getattr(rt, "REFUSED", True), getattr(rt, "AT_LIMIT", True))}
+
+
+def try_edits_by_function(rt):
+    """Has the edits of a crate be tried over the functions that they name, before the whole crate."""
+    over_the_crate = rt.must_fail_all
 
     def must_fail_all(crate, edits, flags):
-        flags_of = {edit: [*flags, *(word for name in functions_of(edit) for word in ("--only", name))] for edit in edits}
-        named = [edit for edit in edits if flags_of[edit] != flags]
-        every = dict.fromkeys(name for edit in named for name in functions_of(edit))
         with tempfile.TemporaryDirectory(prefix="rt-edits-") as kept:
-            tried = refused_together(crate, named, flags, kept)
-            tried.update({edit: rt.must_fail(crate, edit, flags_of[edit], kept) for edit in named if edit not in tried})
-            whole = [*flags, *(word for name in every for word in ("--only", name))]
-            if named and checked(crate, {}, whole, kept).returncode:
-                tried = {}
-        left = [edit for edit in edits if not tried.get(edit, (False,))[0]]
+            tried = refused_by_function(rt, crate, edits, flags, kept)
+        left = [edit for edit in edits if edit not in tried]
         tried.update(zip(left, over_the_crate(crate, left, flags)))
         return [tried[edit] for edit in edits]
 
-    over_the_crate = rt.must_fail_all
-    rt.checked, rt.must_fail_all = checked_functions, must_fail_all
+    refuse_by_function(rt)
+    rt.must_fail_all = must_fail_all
+
+
+def try_edits_in_one_task(rt):
+    """Has `rt ci` try the edits of a crate in one task, over the functions that they name."""
+    added = rt.add_edits
+
+    def must_fail_all(crate, edits, flags):
+        with tempfile.TemporaryDirectory(prefix="rt-edits-") as kept:
+            tried = refused_by_function(rt, crate, edits, flags, kept)
+        tried.update({edit: rt.must_fail(crate, edit, flags) for edit in edits if edit not in tried})
+        return tried
+
+    def add_edits(tasks, crate, edits, first, waits, is_well, kept, start=None, in_ci=True):
+        if start or not in_ci or not edits:
+            return added(tasks, crate, edits, first, waits, is_well, kept, start, in_ci)
+        known, tried = {}, {}
+
+        def names():
+            """The names under which is kept what the edits came to."""
+            return dict(zip(edits, [kept.of_edit(edit, kept.key(crate)) for edit in edits]))
+
+        def call(given, jobs):
+            at_first = names()
+            known.update({edit: told for edit, name in at_first.items() if (told := kept.tried(name))})
+            tried.update(known)
+            left = [edit for edit in edits if edit not in known]
+            if not left or not is_well(given, len(left)):
+                return
+            tried.update(must_fail_all(crate, left, ["--jobs", str(jobs)]))
+            if kept.is_untouched(crate) and names() == at_first:
+                for edit in left:
+                    if tried[edit][0] in rt.SETTLED:
+                        kept.keep_tried(at_first[edit], *tried[edit])
+
+        tasks[crate.name, "edits", 0] = (waits, crate.count(rb"\n"), rt.need(crate), call)
+        return lambda given: [tried[edit] for edit in edits], lambda: known
+
+    refuse_by_function(rt)
+    rt.add_edits = add_edits
+
+
+def has_parts(rt, parts):
+    """Whether `rt` has these functions, with these parameters."""
+    found = {name: getattr(rt, name, None) for name in parts}
+    return all(callable(it) and [*inspect.signature(it).parameters] == parts[name] for name, it in found.items())
+
+
+# What of `rt` is called or replaced, by the kits that have it.
+TRIES = {"checked": ["crate", "texts", "flags", "kept"], "read_edit": ["edit", "folder"], "unread": ["line", "changed"]}
+TRIES["must_fail"] = ["crate", "edit", "flags", "kept"]
+IN_TURN = {**TRIES, "must_fail_all": ["crate", "edits", "flags"]}
+BY_TASKS = {**TRIES, "need": ["crate"]}
+BY_TASKS["add_edits"] = ["tasks", "crate", "edits", "first", "waits", "is_well", "kept", "start", "in_ci"]
 
 
 def main():
@@ -158,11 +233,10 @@ def main():
         return rt.main(*sys.argv[2:])
     if not re.search(r"rt ci .*NAME", rt.__doc__ or ""):
         take_sums_once(crate)
-    words = ["crate", "texts", "flags", "kept"], ["crate", "edits", "flags"]
-    known = [getattr(rt, name, None) for name in ("checked", "must_fail_all")]
-    others = all(callable(getattr(rt, name, None)) for name in ("must_fail", "read_edit", "unread"))
-    if all(known) and others and tuple([*inspect.signature(it).parameters] for it in known) == words:
+    if has_parts(rt, IN_TURN):
         try_edits_by_function(rt)
+    elif has_parts(rt, BY_TASKS):
+        try_edits_in_one_task(rt)
     if sys.argv[1:2] == ["try"] and hasattr(library, "RATTLE"):
         library.RATTLE = shutil.which("true")
     return rt.main(sys.argv[1:])
