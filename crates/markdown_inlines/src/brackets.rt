@@ -22,7 +22,7 @@ ghost use Rattle.markdown_inlines.specs.Spans.{holes, span_of, write};
 
 use crate::atom::{Atom, atom_unless, push_atom};
 use crate::attention::{PlacedRun, match_runs, push_run};
-use crate::ends::{Absent, Domainless, Ends, absent_at, domainless_at, ends_of};
+use crate::ends::{Absent, Domainless, Ends, absent_at, domainless_at, ends_of, list_ends};
 use crate::labels::is_call;
 use crate::plain::text_len;
 use crate::slices::{after, front};
@@ -619,8 +619,8 @@ fn match_last(source: Source<'_, '_>, reading: &mut Reading)
 pub(crate) fn read(alloc: Global, source: Source<'_, '_>) -> Result<Vec<Span>, Message>
     ensures { IfOk result (λ made. Shows source.entry.start [] (closed.level_forest source.entry) made.items) }
 {
-    let on = source.options.constructs;
-    let ends = ends_of(alloc, on.code_text, on.math_text, on.html_text, source.text)?;
+    let mut ends = ends_of(alloc, false, false, false, source.text)?;
+    let mut tried = 0;
     let mut reading = Reading {
         spans: Vec::new(alloc),
         runs: Vec::new(alloc),
@@ -632,6 +632,7 @@ pub(crate) fn read(alloc: Global, source: Source<'_, '_>) -> Result<Vec<Span>, M
     pass_text(source, &mut reading)?;
     while let Some((byte, following)) = after(source.text, reading.at).split_first() {
         places = places_at(source, places, *byte, &reading)?;
+        tried = list_ends(alloc, source.options, source.text, tried, *byte, &mut ends)?;
         step(alloc, source, &ends, places, *byte, following, &mut reading)?;
         pass_text(source, &mut reading)?;
     }

@@ -1,8 +1,8 @@
 // Searches that fail: from which place of a text on a run of backticks or of dollars, or the end of raw HTML, is known
 // to be absent, and where no domain begins. So no text is searched for them again and again.
 //
-// All but domains are listed before a text is read, by one pass from its end, where the text has a byte that begins
-// such a search.
+// All but domains are listed by one pass from the end of a text, once it has some bytes that begin such a search: in most
+// texts few do, and find what they search.
 
 ghost use Rattle.std.specs.Prelude.{◌≡◌, ℕ, ◌≤◌, ◌+◌, true, IfOk, List, OnOk, None, codes, drop, get_or, nat_le};
 ghost use Rattle.md_meaning.specs.Html as h;
@@ -14,6 +14,7 @@ ghost use Rattle.markdown_inlines.specs.Ends as spec;
 use crate::slices::after;
 use crate::span::past;
 use md_engine::message::Message;
+use md_inlines::InlineOptions;
 use md_inlines::address::{no_domain_len, starts_in_any_case};
 use md_scan::ahead::begins_with;
 use md_scan::bytes::run_len;
@@ -337,6 +338,39 @@ pub(crate) fn absent_at(
         },
         _ => Absent::NOTHING,
     }
+}
+
+/// So many searches are tried in a text before it is listed which of them fail.
+const TRIES: usize = 8;
+
+/// Whether a search for an end begins with a byte.
+fn begins_search(byte: u8) -> bool {
+    matches!(byte, b'`' | b'$' | b'<')
+}
+
+/// Lists from which places on searches of a text fail, once so many bytes of it that begin one were read; `tried` says
+/// how many before this byte. Returns how many there are with it.
+///
+/// An `Err` says that memory ran out.
+pub(crate) fn list_ends(
+    alloc: Global,
+    options: &InlineOptions,
+    text: &[u8],
+    tried: usize,
+    byte: u8,
+    ends: &mut Ends,
+) -> Result<usize, Message>
+    requires { spec.AreEnds text.now ends.old }
+    ensures { OnOk result (spec.AreEnds text.now ends.new) }
+{
+    if !begins_search(byte) {
+        return Ok(tried);
+    }
+    if tried == TRIES {
+        let on = options.constructs;
+        *ends = ends_of(alloc, on.code_text, on.math_text, on.html_text, text)?;
+    }
+    Ok(tried.saturating_add(1))
 }
 
 /// From which places on searches of a text fail, for these constructs.

@@ -197,8 +197,10 @@ fn piece_len(literals: bool, text: &[u8]) -> usize
     ensures text { (k : ℕ) → k < result → spec.begins_text literals (drop k text.now) ≡ true }
     ensures bound { result ≤ length text.now }
 {
-    let len = line_len(literals, text);
-    if len == 0 && is_quiet(text) { 1 } else { len }
+    if literals && is_quiet(text) {
+        return 1;
+    }
+    line_len(literals, text)
 }
 
 /// How many bytes of text are at the front.

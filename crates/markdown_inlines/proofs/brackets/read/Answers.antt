@@ -10,6 +10,7 @@ pub loop-byte-init : goal.loop-byte-init
 loop-byte-init c = record {
   reads = c.in_ok-pass_text.ensures.reads;
   places = λ at from to dots. absurd (omega (arith, to));
+  ends = c.in_ok-ends.ensures;
 }
 
 pub pass_text-requires-in-Some : goal.pass_text-requires-in-Some
@@ -19,6 +20,7 @@ pub loop-byte-preserved : goal.loop-byte-preserved
 loop-byte-preserved c = record {
   reads = c.in_ok-pass_text-2.ensures.reads;
   places = c.in_ok-places.ensures;
+  ends = c.in_ok-tried.ensures;
 }
 
 pub loop-byte-smaller : goal.loop-byte-smaller
