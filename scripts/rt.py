@@ -13,8 +13,10 @@ function: no proof of a function sees the body of another. An edit that is not r
 the whole crate.
 
 Kits differ in how `rt ci` tries edits: one after another (`must_fail_all`), or each in a task of its own over what one
-more proof of the crate has left (`add_edits`), for which there is one task here, and no such proof.
+more proof of the crate has left (`add_edits`). With these there is one task here and no such proof: the build of a library
+that has edits holds the modules that were proved of it, with which the tries begin. No verdict rests on them.
 """
+import contextlib
 import importlib.machinery
 import importlib.util
 import inspect
@@ -166,13 +168,68 @@ def try_edits_by_function(rt):
     rt.must_fail_all = must_fail_all
 
 
+def unpack(archive, folder):
+    """Writes the files of an `ar` archive below a folder."""
+    with open(archive, "rb") as file:
+        if file.read(8) != b"!<arch>\n":
+            raise ValueError(archive)
+        names = b""
+        while head := file.read(60):
+            name, size = head[:16].decode().strip(), int(head[48:58])
+            body = file.read(size + size % 2)[:size]
+            if name == "//":
+                names = body
+                continue
+            if re.fullmatch(r"/\d+", name):
+                name = names[int(name[1:]) :].split(b"/\n")[0].decode()
+            path = f"{folder}/{name.removesuffix('/')}"
+            os.makedirs(os.path.dirname(path), exist_ok=True)
+            with open(path, "wb") as to:
+                to.write(body)
+
+
+def take_modules(crate, folder):
+    """Gives a folder that checks begin with the modules that are proved of a library, as its build has them."""
+    archive = f"{crate.rlib}/toolchain/checked.a"
+    try:
+        with open(archive, "rb") as file:
+            found = re.search(rb"^--@ kernel (\S+)$", file.read(1 << 20), re.M)
+        if found:
+            unpack(archive, f"{folder}/{found[1].decode().replace('/', '_')}")
+    except (OSError, ValueError):
+        # Without them they are proved once more.
+        shutil.rmtree(folder, ignore_errors=True)
+        os.makedirs(folder)
+
+
+def keep_modules(rt):
+    """Has the library of a crate with edits hold the modules that are proved of it, and not its statements alone."""
+    built = rt.Crate.build_rlib
+
+    def build_rlib(crate, flags, anew):
+        if not anew or not crate.cuts_libraries or not rt.edits_of(crate)[0]:
+            return built(crate, flags, anew)
+        crate.cuts_libraries = False
+        try:
+            return built(crate, flags, anew)
+        finally:
+            del crate.cuts_libraries
+            # It fits only the libraries below as `rt ci` builds them, so no other command is to take it.
+            with contextlib.suppress(OSError):
+                os.remove(f"{crate.folder}/out/rlib/stamp")
+
+    rt.Crate.build_rlib = build_rlib
+
+
 def try_edits_in_one_task(rt):
-    """Has `rt ci` try the edits of a crate in one task, over the functions that they name."""
+    """Has `rt ci` try the edits of a crate in one task, over the functions that they name and what is proved of it."""
     added = rt.add_edits
 
     def must_fail_all(crate, edits, flags):
-        with tempfile.TemporaryDirectory(prefix="rt-edits-") as kept:
-            tried = refused_by_function(rt, crate, edits, flags, kept)
+        with tempfile.TemporaryDirectory(prefix="rt-edits-") as room:
+            os.mkdir(f"{room}/kept")
+            take_modules(crate, f"{room}/kept")
+            tried = refused_by_function(rt, crate, edits, flags, f"{room}/kept")
         tried.update({edit: rt.must_fail(crate, edit, flags) for edit in edits if edit not in tried})
         return tried
 
@@ -198,9 +255,10 @@ def try_edits_in_one_task(rt):
                     if tried[edit][0] in rt.SETTLED:
                         kept.keep_tried(at_first[edit], *tried[edit])
 
-        tasks[crate.name, "edits", 0] = (waits, crate.count(rb"\n"), rt.need(crate), call)
+        tasks[crate.name, "edits", 0] = (waits, crate.count(rb"\n"), rt.OVER * rt.need(crate), call)
         return lambda given: [tried[edit] for edit in edits], lambda: known
 
+    keep_modules(rt)
     refuse_by_function(rt)
     rt.add_edits = add_edits
 
@@ -215,7 +273,7 @@ def has_parts(rt, parts):
 TRIES = {"checked": ["crate", "texts", "flags", "kept"], "read_edit": ["edit", "folder"], "unread": ["line", "changed"]}
 TRIES["must_fail"] = ["crate", "edit", "flags", "kept"]
 IN_TURN = {**TRIES, "must_fail_all": ["crate", "edits", "flags"]}
-BY_TASKS = {**TRIES, "need": ["crate"]}
+BY_TASKS = {**TRIES, "need": ["crate"], "edits_of": ["crate"]}
 BY_TASKS["add_edits"] = ["tasks", "crate", "edits", "first", "waits", "is_well", "kept", "start", "in_ci"]
 
 
