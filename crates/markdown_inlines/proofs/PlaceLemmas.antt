@@ -1,5 +1,5 @@
 -- Where a part of a document is: each is at some place, and mostly the place does not matter.
-use Rattle.std.proofs.Common.{◌≡◌, ℕ, Bool, true, false, cond, ◌&&◌, List, [], ◌∷◌, ◌++◌, take, drop, refl, ap, sym, ◌∙◌}
+use Rattle.std.proofs.Common.{◌≡◌, ℕ, Bool, true, false, cond, ◌&&◌, List, [], ◌∷◌, ◌++◌, take, drop, refl, ap, ◌∙◌}
 use Rattle.std.specs.Prelude.{Option, Some, None, slice_index}
 use Rattle.md_engine.specs.declared.event.Event.{Event}
 use Rattle.md_engine.specs.declared.event.Kind.{Kind}
@@ -18,7 +18,7 @@ use Rattle.md_inlines.specs.declared.InlineOptions.{InlineOptions}
 use Rattle.md_inlines.specs.Content.{check, content, forest_after, has_form}
 use Rattle.md_inlines.specs.Task.{is_task}
 use Rattle.markdown_blocks.specs.PartPlaces.{IsPlaceOf}
-use Rattle.markdown_inlines.specs.Layer.{MeansAsAt, inline_events, labels_in, may_have_check, part_forest, place_matters}
+use Rattle.markdown_inlines.specs.Layer.{MeansAsAt, labels_in, may_have_check, part_forest, place_matters}
 
 -- Each part begins with an event.
 

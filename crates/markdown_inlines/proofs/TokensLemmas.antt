@@ -9,7 +9,6 @@ use Rattle.md_engine.specs.declared.event.Name.{Name}
 use Rattle.md_engine.specs.declared.event.Name.TheVariants as n
 use Rattle.md_events.specs.Events.Pieces.{is_piece_name}
 use Rattle.md_inline_events.specs.Forest.{Forest, nothing, part, piece, size}
-use Rattle.md_inline_events.specs.Tokens as listed
 use Rattle.md_inline_events.specs.Tokens.{around, tokens}
 use Rattle.md_inline_events.specs.declared.token.Token.{Token}
 use Rattle.md_inline_events.specs.declared.token.Token.TheVariants as t
