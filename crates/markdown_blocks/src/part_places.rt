@@ -1,7 +1,7 @@
 // Where each text part of a document is, in the order of the text: in a cell of a table, in the paragraph that is the
 // first block of an item, or elsewhere.
 
-ghost use Rattle.std.specs.Prelude.{◌≡◌, ◌&&◌, ◌++◌, IfOk, None, OnOk};
+ghost use Rattle.std.specs.Prelude.{◌≡◌, ◌&&◌, ◌++◌, IfOk, None, OnOk, option_copied};
 ghost use Rattle.md_events.specs.Events.Nested.{is_exit};
 ghost use Rattle.md_events.specs.Events.Tiles.{is_part};
 ghost use Rattle.md_events.specs.TextPart.{is_new_item, place_by};
@@ -14,8 +14,8 @@ use md_events::names::{is_block, is_text_part};
 use std::alloc::Global;
 
 /// Whether an item has begun, and in it no block yet, by the last event of a block.
-fn is_new_item(last: Option<Event>) -> bool
-    ensures { result ≡ is_new_item last }
+fn is_new_item(last: Option<&Event>) -> bool
+    ensures { result ≡ is_new_item (option_copied last.entry) }
 {
     match last {
         Some(event) => { matches!(event.kind, Kind::Enter) && matches!(event.name, Name::ListItem) }
@@ -24,8 +24,8 @@ fn is_new_item(last: Option<Event>) -> bool
 }
 
 /// Where a text part of this name is, by the last event of a block before it.
-pub(crate) fn place_by(last: Option<Event>, name: Name) -> PartPlace
-    ensures { result ≡ place_by last name }
+pub(crate) fn place_by(last: Option<&Event>, name: Name) -> PartPlace
+    ensures { result ≡ place_by (option_copied last.entry) name }
 {
     match name {
         Name::GfmTableCellText => PartPlace::TableCell,
@@ -81,11 +81,11 @@ fn begins_part(event: &Event, following: &[Event]) -> bool
 }
 
 /// The last event of a block, an event later.
-pub(crate) fn last_after(last: Option<Event>, event: &Event) -> Option<Event>
-    ensures { result ≡ last_after last event.now }
+pub(crate) fn last_after<'a>(last: Option<&'a Event>, event: &'a Event) -> Option<&'a Event>
+    ensures { option_copied result ≡ last_after (option_copied last.entry) event.now }
 {
     if is_block(event.name) {
-        Some(*event)
+        Some(event)
     } else {
         last
     }
@@ -94,11 +94,12 @@ pub(crate) fn last_after(last: Option<Event>, event: &Event) -> Option<Event>
 /// Adds where the text part is that begins with an event, if one does.
 fn push_place(
     places: &mut Vec<PartPlace>,
-    last: Option<Event>,
+    last: Option<&Event>,
     event: &Event,
     following: &[Event],
 ) -> Result<(), Message>
-    ensures { OnOk result (places.new.items ≡ places.old.items ++ places_at last event.now following.now) }
+    ensures { OnOk result
+        (places.new.items ≡ places.old.items ++ places_at (option_copied last.entry) event.now following.now) }
 {
     if begins_part(event, following) && places.push(place_by(last, event.name)).is_err() {
         return Err(Message);

@@ -1,5 +1,5 @@
 use Rattle.std.proofs.Common.{◌<◌, ◌∙◌, ◌++◌, List, ap, arith, drop, length, take, ◌-◌}
-use Rattle.std.specs.Prelude.{None, Option}
+use Rattle.std.specs.Prelude.{None, Option, option_copied}
 use Rattle.md_engine.specs.declared.event.Event.{Event}
 use Rattle.md_engine.specs.declared.event.Kind.TheVariants.{Enter}
 use Rattle.md_engine.specs.declared.event.Name.TheVariants.{Frontmatter}
@@ -24,5 +24,5 @@ loop-left-preserved c =
     (λ (last : Option Event).
     c.push_place.new.places.items ++ part_places last (take (length left - 1) (drop 1 left)))
     c.last_after-last.ensures
-    ∙ places-next left unset c.loop-left.last c.loop-left.places.items c.push_place.new.places.items _ some
+    ∙ places-next left unset (option_copied c.loop-left.last) c.loop-left.places.items c.push_place.new.places.items _ some
     c.in_ok-push_place.ensures c.loop-left.invariant

@@ -1,5 +1,5 @@
 use Rattle.std.proofs.Common.{◌<◌, List, arith, drop, length, subst, sym, take, ◌-◌}
-use Rattle.std.specs.Prelude.{None, Option}
+use Rattle.std.specs.Prelude.{None, Option, option_copied}
 use Rattle.md_engine.specs.declared.event.Event.{Event}
 use Rattle.md_engine.specs.declared.event.Kind.TheVariants.{Enter}
 use Rattle.md_engine.specs.declared.event.Name.TheVariants.{Frontmatter}
@@ -21,4 +21,4 @@ loop-left-preserved c =
     let left : List Event = c.loop-left.left.now in
     let some : 0 < length left = omega (arith, c.in-len1-up.len_at_least) in
     subst (λ (last : Option Event). IsSearched events last (take (length left - 1) (drop 1 left)))
-    (sym c.last_after-last.ensures) (search-next events left c.loop-left.last unset some c.loop-left.invariant)
+    (sym c.last_after-last.ensures) (search-next events left (option_copied c.loop-left.last) unset some c.loop-left.invariant)
