@@ -35,6 +35,8 @@ MADE = [
     "+++\na = 1\n+++\nb\n", "---\na\n\n---\n# b\n", "---\na\n", "~~~a b c\nd\n~~~\n~~~\n\n", "```\n```\n```\n\n\n", "<!-- a\n\n",
     "<div>\n<b>\"&\n\n  <?a\nb?>\nc\n", "> [!NOTE]\n> a\n\n> [!tip]\n\n> [!Important]\n>\n> b\n> - [!warning]\n",
     "> [!CAUTION]\nb\n\n> > [!warning]\n> > a\n", "- [ ] a\n- [x] b\n", "x" * 5000 + "\n",
+    "".join(f"A line of many words, {mark} and more of them\n\nA line of as many words that ends with {mark}.\n\n"
+            for mark in ('"', "\0", "<", ">", "&")),
 ]
 
 

@@ -96,6 +96,13 @@ impl Inside {
         }
     }
 
+    /// Writes a piece of text.
+    pub(crate) fn push_text(&mut self, out: &mut Writer, piece: &[u8], around: Around) {
+        if self.is_shown(around) {
+            out.push_escaped(piece);
+        }
+    }
+
     /// Ends a part; `piece` are the bytes from the last enter to here.
     pub(crate) fn exit(
         &mut self,
@@ -131,7 +138,7 @@ impl Inside {
         around: Around,
     ) {
         match event.name {
-            Name::Data | Name::CharacterEscapeValue => out.push_escaped(piece),
+            Name::CharacterEscapeValue => out.push_escaped(piece),
             Name::CharacterReference => self.push_character(known, out, event.point.index),
             Name::HtmlTextData => self.push_html(known, out, piece, around),
             Name::GfmTaskListItemCheck => self.push_check(out),

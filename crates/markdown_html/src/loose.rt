@@ -32,12 +32,13 @@ struct Walk {
     open: Vec<Open>,
     /// How many of them are quotes.
     quotes: usize,
-    /// How many quotes have their prefix on this line.
+    /// How many quotes have their prefix on a line, and which line it is.
     prefixes: usize,
-    /// Whether an item or a footnote definition begins on this line.
-    begins: bool,
-    /// Whether a leaf block ends on this line.
-    ends: bool,
+    quoted: usize,
+    /// The last line on which an item or a footnote definition begins.
+    begins: usize,
+    /// The last line on which a leaf block ends.
+    ends: usize,
 }
 
 /// Whether each list is loose, in the order in which lists begin.
@@ -47,21 +48,47 @@ pub(crate) fn loose_lists(alloc: Global, events: &[Event]) -> Result<Vec<bool>, 
         open: Vec::new(alloc),
         quotes: 0,
         prefixes: 0,
-        begins: false,
-        ends: false,
+        quoted: 0,
+        begins: 0,
+        ends: 0,
     };
     for event in events {
-        match event.kind {
-            Kind::Enter if is_block(event.name) => walk.enter(event.name)?,
-            Kind::Exit if is_block(event.name) => walk.exit(event.name),
-            Kind::Exit => walk.read_line(event.name),
-            Kind::Enter => {}
+        if !is_in_line(event.name) {
+            walk.read(event)?;
         }
     }
     Ok(walk.loose)
 }
 
+/// Whether this is a name of what is in a line, or ends one that is not blank. Most events have one of these: the others
+/// of the kind say nothing of lists either, but are looked at.
+#[inline(always)]
+fn is_in_line(name: Name) -> bool {
+    match name {
+        Name::SpaceOrTab | Name::LineEnding | Name::Data => true,
+        Name::Link | Name::Label | Name::LabelLink | Name::LabelMarker | Name::LabelText => true,
+        Name::LabelEnd | Name::Resource | Name::ResourceMarker => true,
+        Name::ResourceDestination | Name::ResourceDestinationRaw => true,
+        Name::ResourceDestinationString | Name::Reference | Name::ReferenceMarker => true,
+        Name::CodeText | Name::CodeTextSequence | Name::CodeTextData => true,
+        Name::Emphasis | Name::EmphasisSequence | Name::EmphasisText => true,
+        Name::Strong | Name::StrongSequence | Name::StrongText => true,
+        _ => false,
+    }
+}
+
 impl Walk {
+    fn read(&mut self, event: &Event) -> Result<(), AllocError> {
+        match event.kind {
+            Kind::Enter if is_block(event.name) => self.enter(event.name)?,
+            Kind::Exit if is_block(event.name) => self.exit(event.name, event.point.line),
+            Kind::Exit => self.end_prefix(event.name, event.point.line),
+            Kind::Enter if event.name == Name::BlankLineEnding => self.part(event.point.line),
+            Kind::Enter => {}
+        }
+        Ok(())
+    }
+
     /// Begins a block, list or item. A part that is parted from the one in front makes the list around it loose.
     fn enter(&mut self, name: Name) -> Result<(), AllocError> {
         let around = self.open.last().copied();
@@ -89,12 +116,14 @@ impl Walk {
         Ok(())
     }
 
-    /// Ends a block, list or item.
-    fn exit(&mut self, name: Name) {
+    /// Ends a block, list or item on a line.
+    fn exit(&mut self, name: Name, line: usize) {
         if name == Name::BlockQuote {
             self.quotes = self.quotes.saturating_sub(1);
         }
-        self.ends = self.ends || !is_container(name);
+        if !is_container(name) {
+            self.ends = line;
+        }
         let _ended = self.open.pop();
         if let Some(outer) = self.open.last_mut() {
             outer.has_part = true;
@@ -102,35 +131,36 @@ impl Walk {
         }
     }
 
-    /// Notes what is on the line, and where it ends.
-    fn read_line(&mut self, name: Name) {
+    /// Notes a prefix on a line, if one ends there.
+    fn end_prefix(&mut self, name: Name, line: usize) {
         match name {
-            Name::BlockQuotePrefix => self.prefixes = self.prefixes.saturating_add(1),
-            Name::ListItemPrefix | Name::GfmFootnoteDefinitionPrefix => self.begins = true,
-            Name::BlankLineEnding => {
-                self.part();
-                self.end_line();
+            Name::BlockQuotePrefix => {
+                self.prefixes = self.prefixes_on(line).saturating_add(1);
+                self.quoted = line;
             }
-            Name::LineEnding => self.end_line(),
+            Name::ListItemPrefix | Name::GfmFootnoteDefinitionPrefix => self.begins = line,
             _ => {}
         }
     }
 
-    /// Notes that the line is blank.
-    fn part(&mut self) {
-        let is_inside = self.begins || self.ends;
-        let prefixes = self.prefixes;
+    /// How many quotes have had their prefix on a line.
+    fn prefixes_on(&self, line: usize) -> usize {
+        if self.quoted == line {
+            self.prefixes
+        } else {
+            0
+        }
+    }
+
+    /// Notes that a line is blank.
+    fn part(&mut self, line: usize) {
+        let is_inside = self.begins == line || self.ends == line;
+        let prefixes = self.prefixes_on(line);
         if let Some(inner) = self.open.last_mut() {
             if inner.has_part && !is_inside && prefixes <= inner.quotes {
                 inner.is_parted = true;
             }
         }
-    }
-
-    fn end_line(&mut self) {
-        self.prefixes = 0;
-        self.begins = false;
-        self.ends = false;
     }
 
     fn set_loose(&mut self, list: Option<usize>) {

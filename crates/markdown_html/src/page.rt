@@ -16,14 +16,14 @@ use crate::notes::{Notes, numbered_notes};
 use crate::options::HtmlOptions;
 use crate::survey::{Target, survey_of};
 use crate::table::Table;
-use crate::tags::{Shown, begin_tag, begins_line, end_tag, shown_after, shown_in};
+use crate::tags::{Shown, Sort, begin_tag, begins_line, end_tag, shown_after, shown_in, sort_of};
 use crate::targets::{most_repeated, targets};
 use crate::writer::Writer;
 use md_engine::event::{Event, Kind, Name, Point};
 use md_engine::message::Message;
 use md_engine::parse_state::ParseState;
 use md_events::labels::Labels;
-use md_events::slice::{Position, Slice};
+use md_events::slice::{Position, Slice, between};
 use std::alloc::Global;
 use std::mem;
 
@@ -175,8 +175,33 @@ impl<'a, 'b> Page<'a, 'b> {
 
     /// Begins a part, whose enter has this index.
     fn enter(&mut self, event: &Event, at: usize) {
-        let name = event.name;
         self.start = event.point;
+        match sort_of(event.name) {
+            Sort::Quiet | Sort::Piece => {}
+            Sort::Block => self.enter_block(event.name, at),
+            Sort::Phrase => {
+                let around = self.around();
+                self.inside.enter(&self.known, &mut self.out, event, around);
+            }
+        }
+    }
+
+    /// Ends a part.
+    fn exit(&mut self, event: &Event) {
+        match sort_of(event.name) {
+            Sort::Quiet => {}
+            Sort::Piece => self.exit_piece(event),
+            Sort::Block => self.exit_block(event.name),
+            Sort::Phrase => {
+                let piece = self.bytes_to(event.point);
+                let around = self.around();
+                self.inside
+                    .exit(&self.known, &mut self.out, event, piece, around);
+            }
+        }
+    }
+
+    fn enter_block(&mut self, name: Name, at: usize) {
         self.shown = shown_in(name).unwrap_or(self.shown);
         if begins_line(name) {
             self.begin_line();
@@ -185,26 +210,28 @@ impl<'a, 'b> Page<'a, 'b> {
         self.enter_container(name, at);
         self.enter_leaf(name, at);
         self.enter_table(name, at);
-        let around = self.around();
-        self.inside.enter(&self.known, &mut self.out, event, around);
     }
 
-    /// Ends a part.
-    fn exit(&mut self, event: &Event) {
-        let name = event.name;
-        match name {
+    fn exit_block(&mut self, name: Name) {
+        self.exit_leaf(name);
+        self.exit_table(name);
+        self.shown = shown_after(name).unwrap_or(self.shown);
+        self.push_tag(end_tag(name));
+        self.exit_container(name);
+    }
+
+    /// Ends a piece.
+    fn exit_piece(&mut self, event: &Event) {
+        match event.name {
             Name::CodeFlowChunk | Name::MathFlowChunk => self.push_line(event.point),
             Name::HtmlFlowData => self.push_html(event.point),
             Name::LineEnding => self.end_line(event.point),
             _ => {
-                self.exit_leaf(name);
-                self.exit_table(name);
-                self.exit_inside(event);
+                let piece = self.bytes_to(event.point);
+                let around = self.around();
+                self.inside.push_text(&mut self.out, piece, around);
             }
         }
-        self.shown = shown_after(name).unwrap_or(self.shown);
-        self.push_tag(end_tag(name));
-        self.exit_container(name);
     }
 
     fn around(&self) -> Around {
@@ -214,13 +241,6 @@ impl<'a, 'b> Page<'a, 'b> {
         }
     }
 
-    fn exit_inside(&mut self, event: &Event) {
-        let piece = self.piece(event.point).bytes;
-        let around = self.around();
-        self.inside
-            .exit(&self.known, &mut self.out, event, piece, around);
-    }
-
     /// The events from one on.
     fn ahead(&self, at: usize) -> &'a [Event] {
         self.known.events.get(at..).unwrap_or(&[])
@@ -228,7 +248,9 @@ impl<'a, 'b> Page<'a, 'b> {
 
     /// Writes a tag, and ends the line if it is one after which it ends.
     fn push_tag(&mut self, tag: (&str, bool)) {
-        self.out.push(tag.0);
+        if !tag.0.is_empty() {
+            self.out.push(tag.0);
+        }
         if tag.1 {
             self.out.push(self.known.ending);
         }
@@ -405,6 +427,17 @@ impl<'a, 'b> Page<'a, 'b> {
         Slice::from_position(self.known.bytes, Position { start, end })
     }
 
+    /// Its bytes, without a tab of which a container has taken columns.
+    fn bytes_to(&self, end: Point) -> &'a [u8] {
+        let start = self.start;
+        let from = if start.vs > 0 {
+            start.index.saturating_add(1)
+        } else {
+            start.index
+        };
+        between(self.known.bytes, from, end.index)
+    }
+
     /// Writes what a container has left of a tab before a line, as spaces.
     fn push_spaces(&mut self, count: usize) {
         for _ in 0..count {
@@ -432,15 +465,16 @@ impl<'a, 'b> Page<'a, 'b> {
 
     /// Goes to the next line of what is shown. After the ending that the text ends with no line begins.
     fn end_line(&mut self, end: Point) {
-        let ending = self.piece(end).bytes;
         match self.shown {
             Shown::Nothing => {}
             Shown::Text => {
+                let ending = self.bytes_to(end);
                 let around = self.around();
                 self.inside.end_line(&mut self.out, ending, around);
             }
             Shown::Line | Shown::Lines => {
                 if self.shown == Shown::Line {
+                    let ending = self.bytes_to(end);
                     self.out.push_bytes(ending);
                 }
                 let is_last = end.index >= self.known.bytes.len();

@@ -28,8 +28,6 @@ pub(crate) struct Target {
 /// A link, an image or a call of a footnote.
 #[derive(Clone, Copy)]
 pub(crate) struct Media {
-    /// How many begin before it.
-    place: usize,
     /// Its text.
     pub(crate) text: Span,
     /// The label after its text. It is empty where there is none.
@@ -125,15 +123,13 @@ impl Target {
 }
 
 impl Media {
-    fn new(place: usize) -> Media {
-        Media {
-            place,
-            text: Span::EMPTY,
-            reference: Span::EMPTY,
-            has_resource: false,
-            target: Target::NONE,
-        }
-    }
+    /// One of which nothing is noted.
+    const NONE: Media = Media {
+        text: Span::EMPTY,
+        reference: Span::EMPTY,
+        has_resource: false,
+        target: Target::NONE,
+    };
 
     /// Notes an event with this index, which is in no other link, image or call within.
     fn note(&mut self, event: &Event, at: usize) {
@@ -143,6 +139,21 @@ impl Media {
             Name::Resource => self.has_resource = true,
             _ => self.target.note(event, at),
         }
+    }
+}
+
+/// Whether events of this name are listed, or say what is. Few are.
+#[inline(always)]
+fn is_listed(name: Name) -> bool {
+    match name {
+        Name::Link | Name::Image | Name::GfmFootnoteCall => true,
+        Name::LabelText | Name::ReferenceString | Name::Resource => true,
+        Name::ResourceDestinationString | Name::ResourceTitleString => true,
+        Name::Definition | Name::GfmFootnoteDefinition => true,
+        Name::DefinitionDestinationString | Name::DefinitionTitleString => true,
+        Name::GfmTable | Name::GfmTableRow | Name::GfmTableCell => true,
+        Name::GfmTableDelimiterRow | Name::GfmTableDelimiterCell => true,
+        _ => false,
     }
 }
 
@@ -188,8 +199,8 @@ impl Cells {
 #[derive(Drop)]
 struct Walk {
     found: Survey,
-    /// The links, images and calls that are open, the innermost last.
-    open: Vec<Media>,
+    /// The links, images and calls that are open, the innermost last, each by how many begin before it.
+    open: Vec<usize>,
     /// How many of them are images.
     images: usize,
     /// The definition that is open.
@@ -217,17 +228,22 @@ pub(crate) fn survey_of(alloc: Global, events: &[Event]) -> Result<Survey, Alloc
         cells: Cells::NONE,
     };
     for (at, event) in events.iter().enumerate() {
-        match event.kind {
-            Kind::Enter => walk.enter(event, at)?,
-            Kind::Exit => walk.exit(event, at)?,
+        if is_listed(event.name) {
+            walk.read(event, at)?;
         }
     }
     Ok(walk.found)
 }
 
 impl Walk {
+    fn read(&mut self, event: &Event, at: usize) -> Result<(), AllocError> {
+        match event.kind {
+            Kind::Enter => self.enter(event, at),
+            Kind::Exit => self.exit(event, at),
+        }
+    }
+
     fn enter(&mut self, event: &Event, at: usize) -> Result<(), AllocError> {
-        self.cells.enter(event.name);
         match event.name {
             Name::Link | Name::GfmFootnoteCall => self.open_media(),
             Name::Image => {
@@ -243,7 +259,8 @@ impl Walk {
                 self.begun = self.begun.saturating_add(1);
                 Ok(())
             }
-            _ => {
+            name => {
+                self.cells.enter(name);
                 self.note(event, at);
                 Ok(())
             }
@@ -251,15 +268,14 @@ impl Walk {
     }
 
     fn exit(&mut self, event: &Event, at: usize) -> Result<(), AllocError> {
-        self.cells.exit(event.name);
         match event.name {
             Name::Link => {
-                let _link = self.close_media();
+                let _link = self.open.pop();
                 Ok(())
             }
             Name::Image => {
                 self.images = self.images.saturating_sub(1);
-                let _image = self.close_media();
+                let _image = self.open.pop();
                 Ok(())
             }
             Name::GfmFootnoteCall => self.end_call(),
@@ -268,7 +284,8 @@ impl Walk {
                 let _ended = self.notes.pop();
                 Ok(())
             }
-            _ => {
+            name => {
+                self.cells.exit(name);
                 self.note(event, at);
                 Ok(())
             }
@@ -278,28 +295,25 @@ impl Walk {
     /// Notes an event of what is open.
     fn note(&mut self, event: &Event, at: usize) {
         self.definition.note(event, at);
-        if let Some(media) = self.open.last_mut() {
-            media.note(event, at);
+        let Walk { found, open, .. } = self;
+        if let Some(place) = open.last() {
+            if let Some(media) = found.media.get_mut(*place) {
+                media.note(event, at);
+            }
         }
     }
 
     fn open_media(&mut self) -> Result<(), AllocError> {
-        let media = Media::new(self.found.media.len());
-        push(&mut self.open, media)?;
-        push(&mut self.found.media, media)
-    }
-
-    fn close_media(&mut self) -> Option<Media> {
-        let media = self.open.pop()?;
-        if let Some(kept) = self.found.media.get_mut(media.place) {
-            *kept = media;
-        }
-        Some(media)
+        push(&mut self.open, self.found.media.len())?;
+        push(&mut self.found.media, Media::NONE)
     }
 
     fn end_call(&mut self) -> Result<(), AllocError> {
         let place = self.place();
-        match self.close_media() {
+        let Some(call) = self.open.pop() else {
+            return Ok(());
+        };
+        match self.found.media.get(call) {
             Some(media) => {
                 let label = media.text;
                 push(&mut self.found.calls, Found { label, place })

@@ -15,6 +15,56 @@ pub(crate) enum Shown {
     Line,
 }
 
+/// What a page has to do at the events of a name.
+#[derive(Clone, Copy)]
+pub(crate) enum Sort {
+    /// Nothing: a marker, a prefix, whitespace, or what is not shown.
+    Quiet,
+    /// A piece of text, of code, of HTML or an ending: it is written where it ends.
+    Piece,
+    /// A block, or a part of one.
+    Block,
+    /// What an inline layer has found in a text.
+    Phrase,
+}
+
+/// What a page has to do at the events of this name. Most events are quiet or of pieces.
+#[inline(always)]
+pub(crate) fn sort_of(name: Name) -> Sort {
+    match name {
+        Name::Data | Name::LineEnding => Sort::Piece,
+        Name::CodeFlowChunk | Name::MathFlowChunk | Name::HtmlFlowData => Sort::Piece,
+        Name::BlockQuote | Name::ListOrdered | Name::ListUnordered | Name::ListItem => Sort::Block,
+        Name::GfmFootnoteDefinition => Sort::Block,
+        Name::Paragraph | Name::HeadingAtx | Name::HeadingSetext => Sort::Block,
+        Name::HeadingAtxText | Name::HeadingSetextText | Name::ThematicBreak => Sort::Block,
+        Name::CodeIndented | Name::CodeFenced | Name::MathFlow | Name::HtmlFlow => Sort::Block,
+        Name::CodeFencedFence | Name::CodeFencedFenceInfo | Name::MathFlowFence => Sort::Block,
+        Name::GfmTable | Name::GfmTableHead | Name::GfmTableBody => Sort::Block,
+        Name::GfmTableRow | Name::GfmTableCell | Name::GfmTableCellText => Sort::Block,
+        _ => phrase_sort(name),
+    }
+}
+
+#[inline(always)]
+fn phrase_sort(name: Name) -> Sort {
+    match name {
+        Name::Link | Name::Image | Name::GfmFootnoteCall => Sort::Phrase,
+        Name::Resource | Name::Reference => Sort::Phrase,
+        Name::Emphasis | Name::Strong | Name::GfmStrikethrough => Sort::Phrase,
+        Name::CodeText | Name::CodeTextData | Name::MathText | Name::MathTextData => Sort::Phrase,
+        Name::HtmlTextData => Sort::Phrase,
+        Name::AutolinkProtocol | Name::AutolinkEmail => Sort::Phrase,
+        Name::GfmAutolinkLiteralEmail | Name::GfmAutolinkLiteralMailto => Sort::Phrase,
+        Name::GfmAutolinkLiteralProtocol | Name::GfmAutolinkLiteralWww => Sort::Phrase,
+        Name::GfmAutolinkLiteralXmpp => Sort::Phrase,
+        Name::CharacterEscapeValue | Name::CharacterReference => Sort::Phrase,
+        Name::HardBreakEscape | Name::HardBreakTrailing => Sort::Phrase,
+        Name::GfmTaskListItemCheck | Name::GfmTaskListItemValueChecked => Sort::Phrase,
+        _ => Sort::Quiet,
+    }
+}
+
 /// Whether a part of this name has a text that is shown.
 fn is_text(name: Name) -> bool {
     matches!(

@@ -6,6 +6,7 @@
 
 use md_entities::characters_of;
 use std::alloc::AllocError;
+use std::simd::prelude::*;
 use std::str;
 
 fn decimal(digits: &[u8]) -> u32 {
@@ -80,8 +81,40 @@ fn escaped(byte: u8) -> Option<&'static str> {
     }
 }
 
+/// Whether each of 16 bytes is written as it is; false of fewer.
+#[inline(always)]
+fn are_plain(bytes: &[u8]) -> bool {
+    if bytes.len() < 16 {
+        return false;
+    }
+    let lanes = u8x16::from_slice(bytes);
+    let replaced = lanes.simd_eq(u8x16::splat(b'&'))
+        | lanes.simd_eq(u8x16::splat(b'<'))
+        | lanes.simd_eq(u8x16::splat(b'>'))
+        | lanes.simd_eq(u8x16::splat(b'"'))
+        | lanes.simd_eq(u8x16::splat(0));
+    replaced.to_bitmask() == 0
+}
+
+/// Whether each byte is written as it is: 16 are looked at at once, and of the last ones as many as there are.
+fn is_plain(bytes: &[u8]) -> bool {
+    if bytes.len() < 16 {
+        return bytes.iter().all(|byte| escaped(*byte).is_none());
+    }
+    for chunk in bytes.chunks_exact(16) {
+        if !are_plain(chunk) {
+            return false;
+        }
+    }
+    let last = bytes.len().saturating_sub(16);
+    are_plain(bytes.get(last..).unwrap_or(&[]))
+}
+
 /// Appends a part of a text so that a browser shows it as it is, also in an attribute.
 pub fn push_escaped(to: &mut String, bytes: &[u8]) -> Result<(), AllocError> {
+    if is_plain(bytes) {
+        return push_bytes(to, bytes);
+    }
     let mut from = 0;
     for (at, byte) in bytes.iter().enumerate() {
         if let Some(text) = escaped(*byte) {
