@@ -1,8 +1,9 @@
 -- Where text parts are: what is found event by event is true of each part of a document.
-use Rattle.std.proofs.Common.{◌≡◌, ℕ, zero, suc, ◌<◌, ◌-◌, take, Bool, true, false, cond, ◌&&◌, ◌||◌, not, List, [], ◌∷◌, ◌++◌}
+use Rattle.std.proofs.Common.{◌≡◌, ℕ, zero, suc, ◌<◌, ◌+◌, ◌-◌, take, Bool, true, false, cond, ◌&&◌, ◌||◌, not, List, [], ◌∷◌, ◌++◌}
 use Rattle.std.proofs.Common.{length, get_or, drop, refl, ap, sym, ◌∙◌, subst, append_assoc, arith}
 use Rattle.std.specs.Prelude.{Option, Some, None, filter}
-use Rattle.std.specs.List.{last_or}
+use Rattle.std.specs.List.{last_or, prefix_len}
+use Rattle.std.proofs.lemmas.Bool.{and_parts}
 use Rattle.std.proofs.lemmas.List.{take_rest}
 use Rattle.md_engine.specs.declared.event.Event.{Event}
 use Rattle.md_engine.specs.declared.event.Kind.{Kind}
@@ -16,7 +17,7 @@ use Rattle.md_events.specs.Events.Tiles.{chunks, inside_part, is_part, part_at, 
 use Rattle.md_events.specs.Substituted.{chunk_of}
 use Rattle.md_events.specs.TextPart.{AreBlocks, Document, IsTextPartAt, is_of_block, last_of_block, place_by}
 use Rattle.markdown_blocks.specs.PartPlaces.{IsNext, begins_chunk, begins_part, chunk_at, chunks_in, holds_chunk}
-use Rattle.markdown_blocks.specs.PartPlaces.{last_after, part_places, places_at}
+use Rattle.markdown_blocks.specs.PartPlaces.{is_inside, last_after, part_places, places_at}
 
 -- Chunks of a part.
 
@@ -289,6 +290,45 @@ places-next (e ∷ es) d last have new all some is at =
     (is ∙ ap (λ (l : List Event). have ++ places_at last e l) rest)
     ∙ append_assoc have (places_at last e es) (part_places (last_after last e) es)
     ∙ at
+
+-- events that change no place
+pub places-inside : (last : Option Event) (es : List Event) (many : ℕ) → many ≡ prefix_len is_inside es →
+    part_places last (drop many es) ≡ part_places last es
+places-inside last [] many is = rw is refl
+places-inside last (e ∷ es) many is = by (is_inside e) refl (places-inside last es (prefix_len is_inside es) refl)
+  where
+    run : ℕ
+    run = prefix_len is_inside es
+
+    off : (x : Bool) → not x ≡ true → x ≡ false
+    off true h = cc
+    off false h = refl
+
+    same : is_inside e ≡ true → part_places last es ≡ part_places last (e ∷ es)
+    same here =
+        let parts = and_parts (not (is_of_block e)) (not (is_part e.name)) here in
+        let block = off (is_of_block e) parts.0 in
+        let part = off (is_part e.name) parts.1 in
+        sym (ap (λ (x : Bool). cond (not (is_exit e.kind) && x && holds_chunk es) (place_by last e.name ∷ []) []
+        ++ part_places (last_after last e) es) part
+        ∙ ap (λ (x : Bool). cond (not (is_exit e.kind) && false && holds_chunk es) (place_by last e.name ∷ []) []
+        ++ part_places (cond x (Some e) last) es) block
+        ∙ none (not (is_exit e.kind)))
+      where
+        none : (x : Bool) →
+            cond (x && false && holds_chunk es) (place_by last e.name ∷ []) [] ++ part_places last es ≡
+            part_places last es
+        none true = refl
+        none false = refl
+
+    by : (x : Bool) → is_inside e ≡ x → part_places last (drop run es) ≡ part_places last es →
+        part_places last (drop many (e ∷ es)) ≡ part_places last (e ∷ es)
+    by false here to-end =
+        ap (λ (n : ℕ). part_places last (drop n (e ∷ es))) (is ∙ ap (λ (x : Bool). cond x (1 + run) 0) here)
+    by true here to-end =
+        let more : 1 + run ≡ suc run = omega arith in
+        ap (λ (n : ℕ). part_places last (drop n (e ∷ es))) (is ∙ ap (λ (x : Bool). cond x (1 + run) 0) here ∙ more)
+        ∙ to-end ∙ same here
 
 -- One part that is looked for.
 

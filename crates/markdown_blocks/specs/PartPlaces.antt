@@ -45,6 +45,10 @@ abbrev pub part_places : Option Event → List Event → List PartPlace
 part_places last [] = []
 part_places last (e ∷ es) = places_at last e es ++ part_places (last_after last e) es
 
+-- whether an event is of no block, and neither begins nor ends a text part: it changes no place
+abbrev pub is_inside : Event → Bool
+is_inside e = not (is_of_block e) && not (is_part e.name)
+
 -- A part of a document is at the next of some places, of which so many are taken.
 pub record IsNext (document : Document) (places : List PartPlace) (taken : ℕ) (part : Part) : Type 0 where
   pub within : taken < length places

@@ -5,12 +5,14 @@ ghost use Rattle.std.specs.Prelude.{◌≡◌, ◌&&◌, ◌++◌, IfOk, None, O
 ghost use Rattle.md_events.specs.Events.Nested.{is_exit};
 ghost use Rattle.md_events.specs.Events.Tiles.{is_part};
 ghost use Rattle.md_events.specs.TextPart.{is_new_item, place_by};
-ghost use Rattle.markdown_blocks.specs.PartPlaces.{begins_chunk, begins_part, holds_chunk, last_after, part_places, places_at};
+ghost use Rattle.markdown_blocks.specs.PartPlaces.{begins_chunk, begins_part, holds_chunk, is_inside, last_after, part_places};
+ghost use Rattle.markdown_blocks.specs.PartPlaces.{places_at};
 
 use md_engine::event::{Event, Kind, Name};
 use md_engine::message::Message;
 use md_events::inline::PartPlace;
 use md_events::names::{is_block, is_text_part};
+use md_events::walks::{Test, passing};
 use std::alloc::Global;
 
 /// Whether an item has begun, and in it no block yet, by the last event of a block.
@@ -107,6 +109,26 @@ fn push_place(
     Ok(())
 }
 
+/// Whether an event is of no block, and neither begins nor ends a text part.
+#[inline(always)]
+fn is_inside(event: &Event) -> bool
+    ensures { result ≡ is_inside event.now }
+{
+    !is_block(event.name) && !is_text_part(event.name)
+}
+
+/// That as a test.
+struct IsInside;
+
+impl Test for IsInside {
+    ghost passes = { λ test. is_inside };
+
+    #[inline(always)]
+    fn passes(&self, event: &Event) -> bool {
+        is_inside(event)
+    }
+}
+
 /// Where the text parts of a document are that have chunks, by its events. An `Err` says that memory ran out.
 pub fn places_of(alloc: Global, events: &[Event]) -> Result<Vec<PartPlace>, Message>
     ensures { IfOk result (λ places. places.items ≡ part_places None events.now) }
@@ -117,7 +139,8 @@ pub fn places_of(alloc: Global, events: &[Event]) -> Result<Vec<PartPlace>, Mess
     while let [event, rest @ ..] = left {
         push_place(&mut places, last, event, rest)?;
         last = last_after(last, event);
-        left = rest;
+        let many = passing(&IsInside, rest);
+        left = rest.split_at(many).1;
     }
     Ok(places)
 }
