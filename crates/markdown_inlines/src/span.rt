@@ -43,12 +43,18 @@ pub(crate) fn past(at: usize, len: usize) -> Result<usize, Message>
     }
 }
 
+/// How many spans a list has room for where it has any: as many as a few links have.
+const ROOM: usize = 32;
+
 /// Adds spans.
 ///
 /// An `Err` says that memory ran out.
 pub(crate) fn push_spans(spans: &mut Vec<Span>, more: &[Span]) -> Result<(), Message>
     ensures { OnOk result (spans.new.items ≡ spans.old.items ++ more.now) }
 {
+    if spans.is_empty() && spans.reserve(ROOM).is_err() {
+        return Err(Message);
+    }
     match spans.extend_from_slice(more) {
         Ok(()) => Ok(()),
         Err(_) => Err(Message),

@@ -1,6 +1,6 @@
 // The text of a part as a layer reads it.
 
-ghost use Rattle.std.specs.Prelude.{◌≡◌, ◌≤◌, ◌<◌, ◌+◌, ◌^◌, ◌++◌, IfOk, OnOk, length};
+ghost use Rattle.std.specs.Prelude.{◌≡◌, ◌≤◌, ◌<◌, ◌+◌, ◌^◌, ◌++◌, IfOk, OnOk, [], length};
 ghost use Rattle.std.specs.List.{All};
 ghost use Rattle.md_meaning.specs.Lines.{without_ending};
 ghost use Rattle.md_events.specs.Events.Inline.{chunk_text};
@@ -135,6 +135,26 @@ fn push_side(text: &mut Vec<u8>, side: &Sides) -> Result<(), Message>
     }
 }
 
+/// How many bytes the lines of a part have at most: those from its first to its last.
+fn room_of(chunks: &[Chunk]) -> usize {
+    match (chunks.first(), chunks.last()) {
+        (Some(first), Some(last)) => last.after.index.saturating_sub(first.first.index),
+        _ => 0,
+    }
+}
+
+/// An empty text with room for the lines of a part.
+///
+/// An `Err` says that memory ran out.
+fn with_room(alloc: Global, chunks: &[Chunk]) -> Result<Vec<u8>, Message>
+    ensures { IfOk result (λ text. text.items ≡ []) }
+{
+    match Vec::with_capacity(alloc, room_of(chunks)) {
+        Ok(text) => Ok(text),
+        Err(_) => Err(Message),
+    }
+}
+
 /// The text of a part, in memory of its own.
 ///
 /// An `Err` says that memory ran out.
@@ -147,7 +167,7 @@ fn copied(
     requires { All (IsStretch bytes.now) chunks.now }
     ensures { IfOk result (λ text. text.items ≡ woven.read_chunks bytes.now leaves_out leaves_out chunks.now) }
 {
-    let mut text = Vec::new(alloc);
+    let mut text = with_room(alloc, chunks)?;
     let mut starts = leaves_out;
     let mut rest = chunks;
     while let Some((chunk, following)) = rest.split_first() {
