@@ -35,3 +35,4 @@ pub mod EndLemmas
 pub mod PassLemmas
 pub mod ContentTokens
 pub mod AlikeLemmas
+pub mod ContentLaws

@@ -8,8 +8,10 @@ use Rattle.md_engine.specs.declared.configuration.ParseOptions.{ParseOptions}
 use Rattle.md_engine.specs.declared.event.Event.{Event}
 use Rattle.md_engine.specs.declared.parse_state.ParseState.{ParseState}
 use Rattle.md_events.specs.Events.Inline.{Part}
-use Rattle.md_events.specs.TextPart.{Document}
+use Rattle.md_events.specs.Events.Tiles.{parts}
+use Rattle.md_events.specs.TextPart.{AreBlocks, Document}
 use Rattle.md_inline_events.specs.Forest.{Forest}
+use Rattle.md_inline_events.specs.TreeTexts.{part_texts}
 use Rattle.md_inline_events.specs.Woven.{read_text, woven_events}
 use Rattle.md_inlines.specs.declared.InlineOptions.{InlineOptions}
 use Rattle.md_inlines.specs.Content.{has_form}
@@ -45,6 +47,13 @@ MeanAlike options document other =
     (place_matters options held.kind (read_text document.bytes held) ≡ true →
     may_have_check is.place ≡ may_have_check also.place) →
     AreOfOneForest document.bytes other.bytes held like events found
+
+-- The inline content of two documents is the same: their text parts that hold content (those of paragraphs, headings
+-- and cells) have the same texts, one for one and in order, and parts with the same texts mean the same.
+pub record HaveSameContent (options : InlineOptions) (document other : Document) : Type 0 where
+  pub texts : (blocks others : List Event) → AreBlocks document blocks → AreBlocks other others →
+      part_texts document.bytes (parts blocks) ≡ part_texts other.bytes (parts others)
+  pub mean : MeanAlike options document other
 
 -- what is known of a text that was read with the layer
 abbrev pub IsReadBy : InlineOptions → List ℕ → ParseOptions → List Event → ParseState → Type 0

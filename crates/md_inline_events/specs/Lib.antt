@@ -5,3 +5,4 @@ pub mod Tokens
 pub mod Cursor
 pub mod Room
 pub mod SidesOf
+pub mod TreeTexts

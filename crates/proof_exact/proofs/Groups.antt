@@ -4,7 +4,6 @@ use Rattle.md_engine.specs.declared.configuration.ParseOptions.{ParseOptions}
 use Rattle.md_engine.specs.declared.event.Event.{Event}
 use Rattle.md_engine.specs.declared.event.Name.TheVariants as n
 use Rattle.md_events.specs.Exact.Blocks.{events_by, tail, bare_events}
-use Rattle.md_events.specs.Exact.Leaves as lines
 use Rattle.md_events.specs.Exact.Leaves.{content_line}
 use Rattle.md_events.specs.Exact.Rows.{Role, Row, First}
 use Rattle.proof_frame.specs.LeafName.{CodeFurther, HeadingAtx, LeafName}

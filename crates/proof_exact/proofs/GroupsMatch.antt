@@ -9,7 +9,7 @@ use Rattle.md_engine.specs.declared.tokenizer.held_leaf.OpenText.{OpenText}
 use Rattle.md_events.specs.Exact.Blocks.{is_continued as role_continues, grouped, onto}
 use Rattle.md_events.specs.Exact.Rows as exact
 use Rattle.proof_frame.specs.HeldLeaf.{may_continue, takes_lazy}
-use Rattle.proof_frame.specs.LeafName.{CodeFurther, Fence, FenceFurther, GfmTable, HeadingSetext, HtmlFurther, LeafName}
+use Rattle.proof_frame.specs.LeafName.{CodeFurther, FenceFurther, GfmTable, HeadingSetext, HtmlFurther, LeafName}
 use Rattle.proof_frame.specs.Row.{BlankRow, LeafRow, Row, RowKind, TextRow, any_framed, is_framed}
 use Rattle.proof_frame.proofs.LeafLines.Bare.{inner, outer}
 use Rattle.proof_frame.proofs.LeafLines.Rest.{row_unread}

@@ -42,3 +42,4 @@ pub mod WholeParts
 pub mod CutAfter
 pub mod TextCut
 pub mod PartExamples
+pub mod Filled

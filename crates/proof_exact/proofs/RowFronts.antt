@@ -11,7 +11,7 @@ use Rattle.md_engine.specs.declared.event.Event.{Event}
 use Rattle.md_engine.specs.declared.event.Point.{Point}
 use Rattle.md_engine.specs.declared.tokenizer.Line.{Line}
 use Rattle.md_engine.specs.Meaning.{Cell}
-use Rattle.md_meaning.specs.Containers.{Taken, opens}
+use Rattle.md_meaning.specs.Containers.{Taken}
 use Rattle.md_meaning.specs.Leaves.{LeafResult, NoText, starts}
 use Rattle.md_meaning.specs.Rest.{Rest, is_blank}
 use Rattle.md_meaning.specs.State.{Container, NoLeaf, OpenCode, Path, spot}

@@ -21,7 +21,6 @@ use Rattle.md_meaning.specs.Leaves.{Finished, Opened, closes}
 use Rattle.md_meaning.specs.Rest.{Rest, cut_tab, is_blank, line_of}
 use Rattle.md_meaning.specs.State.{Container, OpenHtml, Opening}
 use Rattle.md_meaning.specs.Tree.{Html, Line}
-use Rattle.md_events.specs.Events.Spelled.{role}
 use Rattle.md_events.specs.Exact.Blocks.{events_by, leaf_events, tail}
 use Rattle.md_events.specs.Exact.Leaves.{content_line, fence, fenced_line, leaf as leaf_lines}
 use Rattle.md_events.specs.Exact.Places.{TextLine}
