@@ -309,8 +309,8 @@ def main():
         return rt.main(*sys.argv[2:])
     if not re.search(r"rt ci .*NAME", rt.__doc__ or ""):
         take_sums_once(crate)
-    if hasattr(crate, "ci"):
-        hasten_last(crate)
+    if hasattr(getattr(rt, "Crate", None), "ci"):
+        hasten_last(rt.Crate)
     if has_parts(rt, IN_TURN):
         try_edits_by_function(rt)
     elif has_parts(rt, BY_TASKS):
