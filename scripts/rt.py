@@ -281,6 +281,20 @@ def hasten_last(crate):
     crate.ci = ci
 
 
+def keep_checked(crate):
+    """Has the proof of a static library leave what it checked in out/checked, over which `over_libraries.sh` builds."""
+    proved = crate.ci
+
+    def ci(self, flags, tests):
+        if tests or not self.is_static:
+            return proved(self, flags, tests)
+        shutil.rmtree(f"{self.folder}/out/checked", ignore_errors=True)
+        os.makedirs(f"{self.folder}/out", exist_ok=True)
+        return self.prove(["check", *self.words(flags, keeps=False), "-o", "out/checked"])
+
+    crate.ci = ci
+
+
 def has_parts(rt, parts):
     """Whether `rt` has these functions, with these parameters."""
     found = {name: getattr(rt, name, None) for name in parts}
@@ -311,6 +325,7 @@ def main():
         take_sums_once(crate)
     if hasattr(getattr(rt, "Crate", None), "ci"):
         hasten_last(rt.Crate)
+        keep_checked(rt.Crate)
     if has_parts(rt, IN_TURN):
         try_edits_by_function(rt)
     elif has_parts(rt, BY_TASKS):
