@@ -26,17 +26,15 @@ fn is_low_mark(byte: u8) -> bool {
 }
 
 /// A digit of a byte in base 16.
-fn digit(value: u8) -> char {
+fn digit(value: u8) -> u8 {
     match value {
-        0..=9 => char::from(b'0'.saturating_add(value)),
-        _ => char::from(b'A'.saturating_add(value.saturating_sub(10))),
+        0..=9 => b'0'.saturating_add(value),
+        _ => b'A'.saturating_add(value.saturating_sub(10)),
     }
 }
 
 fn push_encoded(out: &mut Writer, byte: u8) {
-    out.push("%");
-    out.push_char(digit(byte / 16));
-    out.push_char(digit(byte % 16));
+    out.push_bytes(&[b'%', digit(byte / 16), digit(byte % 16)]);
 }
 
 /// Writes an address, so that it may be in an attribute: bytes that are none of an address are percent-encoded.

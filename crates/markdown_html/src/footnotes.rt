@@ -33,7 +33,7 @@ fn push_call_id(known: &Known, out: &mut Writer, form: &str, nth: usize) {
         id.push("0");
     }
     out.refuse(id.is_refused());
-    push_id(out, id.as_str().as_bytes());
+    push_id(out, id.bytes());
     out.push_number(nth);
 }
 
@@ -95,23 +95,23 @@ fn push_backs(known: &Known, out: &mut Writer, note: usize) {
 }
 
 /// Writes a footnote, given what is in it. The links back are at the end of its last paragraph, if that is its last block.
-pub(crate) fn push_note(known: &Known, out: &mut Writer, note: usize, body: &str) {
+pub(crate) fn push_note(known: &Known, out: &mut Writer, note: usize, body: &[u8]) {
     out.push("<li id=\"");
     push_prefix(known, out);
     out.push("fn-");
     push_id(out, form_of(known, note).as_bytes());
     out.push("\">");
     out.push(known.ending);
-    let text = body.strip_suffix(known.ending).unwrap_or(body);
-    match text.strip_suffix("</p>") {
+    let text = body.strip_suffix(known.ending.as_bytes()).unwrap_or(body);
+    match text.strip_suffix(b"</p>") {
         Some(before) => {
-            out.push(before);
+            out.push_bytes(before);
             out.push(" ");
             push_backs(known, out, note);
             out.push("</p>");
         }
         None => {
-            out.push(body);
+            out.push_bytes(body);
             push_backs(known, out, note);
         }
     }

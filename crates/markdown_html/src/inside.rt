@@ -6,7 +6,7 @@
 use crate::address::{is_safe, push_address};
 use crate::footnotes::push_call;
 use crate::known::Known;
-use crate::spelled::push_string;
+use crate::spelled::{plain_string, push_string};
 use crate::survey::{Span, Target};
 use crate::tags::{begin_phrase, end_phrase};
 use crate::texts::without_padding;
@@ -249,15 +249,19 @@ impl Inside {
         self.is_hidden = true;
     }
 
-    /// Reads a string.
-    fn read(&mut self, known: &Known, string: Span) {
+    /// What a string is.
+    fn read<'a>(&'a mut self, known: &'a Known, string: Span) -> &'a [u8] {
+        let events = string.events(known.events);
+        if let Some(piece) = plain_string(known.bytes, events) {
+            return piece;
+        }
         self.scratch.clear();
-        push_string(&mut self.scratch, known.bytes, string.events(known.events));
+        push_string(&mut self.scratch, known.bytes, events);
+        self.scratch.bytes()
     }
 
     fn push_destination(&mut self, known: &Known, out: &mut Writer, string: Span, is_image: bool) {
-        self.read(known, string);
-        let address = self.scratch.as_str().as_bytes();
+        let address = self.read(known, string);
         if known.options.allow_dangerous_protocol || is_safe(address, is_image) {
             push_address(out, address);
         }
@@ -268,9 +272,8 @@ impl Inside {
         if string.is_empty() {
             return;
         }
-        self.read(known, string);
         out.push(" title=\"");
-        out.push_escaped(self.scratch.as_str().as_bytes());
+        out.push_escaped(self.read(known, string));
         out.push("\"");
     }
 
@@ -290,7 +293,7 @@ impl Inside {
             out.push(tag);
         }
         if self.is_shown(around) {
-            out.push_escaped(without_padding(self.scratch.as_str().as_bytes()));
+            out.push_escaped(without_padding(self.scratch.bytes()));
         }
         if is_tagged {
             out.push("</code>");
@@ -302,13 +305,13 @@ impl Inside {
         self.scratch.clear();
         self.scratch
             .push_reference(between(known.bytes, self.reference, end));
-        out.push_escaped(self.scratch.as_str().as_bytes());
+        out.push_escaped(self.scratch.bytes());
     }
 
     fn push_html(&mut self, known: &Known, out: &mut Writer, piece: &[u8], around: Around) {
         self.scratch.clear();
         self.push_source(piece, around);
-        let html = self.scratch.as_str().as_bytes();
+        let html = self.scratch.bytes();
         if known.options.allow_dangerous_html && self.images == 0 {
             out.push_shown(html);
         } else {
@@ -327,7 +330,7 @@ impl Inside {
     ) {
         self.scratch.clear();
         self.push_source(piece, around);
-        let address = self.scratch.as_str().as_bytes();
+        let address = self.scratch.bytes();
         let is_allowed = known.options.allow_dangerous_protocol || !protocol.is_empty();
         if self.images > 0 {
             out.push_escaped(address);

@@ -42,7 +42,7 @@ struct OpenNote {
     /// How many begin before it.
     place: usize,
     /// What was written until it began.
-    around: String,
+    around: Vec<u8>,
 }
 
 /// What is written, and what has to be known of the parts that are open.
@@ -64,7 +64,7 @@ struct Page<'a, 'b> {
     /// The footnote definitions that are open.
     open: Vec<OpenNote>,
     /// What is written of each that has begun.
-    bodies: Vec<String>,
+    bodies: Vec<Vec<u8>>,
 }
 
 /// What is known of a whole text.
@@ -325,7 +325,7 @@ impl<'a, 'b> Page<'a, 'b> {
         let around = self.out.take();
         let opened = self.open.push(OpenNote { place, around });
         self.out.refuse(opened.is_err());
-        let kept = self.bodies.push(String::new(self.known.alloc));
+        let kept = self.bodies.push(Vec::new(self.known.alloc));
         self.out.refuse(kept.is_err());
     }
 
@@ -493,14 +493,14 @@ impl<'a, 'b> Page<'a, 'b> {
         begin_section(&self.known, &mut self.out);
         for note in &notes.shown {
             let body = self.take_body(*note);
-            push_note(&self.known, &mut self.out, *note, body.as_str());
+            push_note(&self.known, &mut self.out, *note, &body);
         }
         end_section(&self.known, &mut self.out);
     }
 
     /// What is written of a footnote.
-    fn take_body(&mut self, note: usize) -> String {
-        let empty = String::new(self.known.alloc);
+    fn take_body(&mut self, note: usize) -> Vec<u8> {
+        let empty = Vec::new(self.known.alloc);
         match self.bodies.get_mut(note) {
             Some(body) => mem::replace(body, empty),
             None => empty,

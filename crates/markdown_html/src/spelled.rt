@@ -6,12 +6,23 @@ use md_engine::message::Message;
 use md_events::slice::between;
 use md_scan::label::normal_form;
 use std::alloc::Global;
+use std::str;
 
 /// Adds what is between the points of an exit and of the enter before it.
 fn push_piece(out: &mut Writer, name: Name, piece: &[u8]) {
     match name {
         Name::Data | Name::CharacterEscapeValue | Name::LineEnding => out.push_bytes(piece),
         _ => {}
+    }
+}
+
+/// What the string or label in these events is, if that is one piece of the text. Most are.
+pub(crate) fn plain_string<'a>(bytes: &'a [u8], events: &[Event]) -> Option<&'a [u8]> {
+    match events {
+        [first, last] if last.name == Name::Data => {
+            Some(between(bytes, first.point.index, last.point.index))
+        }
+        _ => None,
     }
 }
 
@@ -63,6 +74,9 @@ fn push_label(out: &mut Writer, bytes: &[u8], events: &[Event]) {
 
 /// The normal form of the label in these events. An `Err` says that memory ran out.
 pub(crate) fn label_form(alloc: Global, bytes: &[u8], events: &[Event]) -> Result<String, Message> {
+    if let Some(piece) = plain_string(bytes, events) {
+        return normal_form(alloc, &[str::from_utf8(piece).unwrap_or("")]);
+    }
     let mut source = Writer::new(alloc);
     push_label(&mut source, bytes, events);
     if source.is_refused() {

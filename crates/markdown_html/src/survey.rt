@@ -292,14 +292,20 @@ impl Walk {
         }
     }
 
-    /// Notes an event of what is open.
+    /// Notes an event of what is open. No link, image or call is in a definition.
     fn note(&mut self, event: &Event, at: usize) {
-        self.definition.note(event, at);
-        let Walk { found, open, .. } = self;
-        if let Some(place) = open.last() {
-            if let Some(media) = found.media.get_mut(*place) {
-                media.note(event, at);
-            }
+        let Walk {
+            found,
+            open,
+            definition,
+            ..
+        } = self;
+        let Some(place) = open.last() else {
+            definition.note(event, at);
+            return;
+        };
+        if let Some(media) = found.media.get_mut(*place) {
+            media.note(event, at);
         }
     }
 

@@ -2,12 +2,30 @@
 // of tables (GFM 4.10) and zero characters (CommonMark 2.3).
 //
 // Who makes something else of events needs the same, as the syntax tree of `hoxalgurre` does. Each function appends to a
-// string, and an `Err` says that memory ran out: then only some of it is appended.
+// string or to bytes, and an `Err` says that memory ran out: then only some of it is appended.
 
 use md_entities::characters_of;
 use std::alloc::AllocError;
 use std::simd::prelude::*;
 use std::str;
+
+/// What text is appended to.
+pub trait Append {
+    /// Appends bytes, which begin and end where characters do.
+    fn append(&mut self, bytes: &[u8]) -> Result<(), AllocError>;
+}
+
+impl Append for String {
+    fn append(&mut self, bytes: &[u8]) -> Result<(), AllocError> {
+        self.push_str(str::from_utf8(bytes).unwrap_or(""))
+    }
+}
+
+impl Append for Vec<u8> {
+    fn append(&mut self, bytes: &[u8]) -> Result<(), AllocError> {
+        self.extend_from_slice(bytes)
+    }
+}
 
 fn decimal(digits: &[u8]) -> u32 {
     let mut value: u32 = 0;
@@ -35,22 +53,30 @@ fn numbered(value: u32) -> char {
     }
 }
 
-fn push_named(to: &mut String, name: &[u8]) -> Result<(), AllocError> {
+fn push_char<T: Append>(to: &mut T, c: char) -> Result<(), AllocError> {
+    let mut room = [0u8; 4];
+    to.append(c.encode_utf8(&mut room).as_bytes())
+}
+
+fn push_named<T: Append>(to: &mut T, name: &[u8]) -> Result<(), AllocError> {
     let Some(found) = characters_of(name) else {
         return Ok(());
     };
-    to.push(found.first)?;
+    push_char(to, found.first)?;
     match found.second {
-        Some(second) => to.push(second),
+        Some(second) => push_char(to, second),
         None => Ok(()),
     }
 }
 
 /// Appends what a character reference means, given from its `&` to its `;`.
-pub fn push_reference(to: &mut String, reference: &[u8]) -> Result<(), AllocError> {
+pub fn push_reference<T: Append>(to: &mut T, reference: &[u8]) -> Result<(), AllocError> {
     match reference {
-        [b'&', b'#', b'x' | b'X', digits @ .., b';'] => to.push(numbered(hexadecimal(digits))),
-        [b'&', b'#', digits @ .., b';'] => to.push(numbered(decimal(digits))),
+        [b'&', b'#', b'x' | b'X', digits @ .., b';'] => push_char(
+            to,
+            numbered(hexadecimal(digits)),
+        ),
+        [b'&', b'#', digits @ .., b';'] => push_char(to, numbered(decimal(digits))),
         [b'&', name @ .., b';'] => push_named(to, name),
         _ => Ok(()),
     }
@@ -62,11 +88,6 @@ pub fn without_padding(code: &[u8]) -> &[u8] {
         [b' ', inner @ .., b' '] if code.iter().any(|byte| *byte != b' ') => inner,
         _ => code,
     }
-}
-
-/// Appends bytes, which begin and end where characters do.
-pub(crate) fn push_bytes(to: &mut String, bytes: &[u8]) -> Result<(), AllocError> {
-    to.push_str(str::from_utf8(bytes).unwrap_or(""))
 }
 
 /// What is written in place of a byte of a text. A zero character is U+FFFD.
@@ -111,42 +132,42 @@ fn is_plain(bytes: &[u8]) -> bool {
 }
 
 /// Appends a part of a text so that a browser shows it as it is, also in an attribute.
-pub fn push_escaped(to: &mut String, bytes: &[u8]) -> Result<(), AllocError> {
+pub fn push_escaped<T: Append>(to: &mut T, bytes: &[u8]) -> Result<(), AllocError> {
     if is_plain(bytes) {
-        return push_bytes(to, bytes);
+        return to.append(bytes);
     }
     let mut from = 0;
     for (at, byte) in bytes.iter().enumerate() {
         if let Some(text) = escaped(*byte) {
-            push_bytes(to, bytes.get(from..at).unwrap_or(&[]))?;
-            to.push_str(text)?;
+            to.append(bytes.get(from..at).unwrap_or(&[]))?;
+            to.append(text.as_bytes())?;
             from = at.saturating_add(1);
         }
     }
-    push_bytes(to, bytes.get(from..).unwrap_or(&[]))
+    to.append(bytes.get(from..).unwrap_or(&[]))
 }
 
 /// Appends a part of a text as it is, but for zero characters.
-pub fn push_shown(to: &mut String, bytes: &[u8]) -> Result<(), AllocError> {
+pub fn push_shown<T: Append>(to: &mut T, bytes: &[u8]) -> Result<(), AllocError> {
     let mut from = 0;
     for (at, byte) in bytes.iter().enumerate() {
         if *byte == 0 {
-            push_bytes(to, bytes.get(from..at).unwrap_or(&[]))?;
-            to.push_str("\u{fffd}")?;
+            to.append(bytes.get(from..at).unwrap_or(&[]))?;
+            to.append("\u{fffd}".as_bytes())?;
             from = at.saturating_add(1);
         }
     }
-    push_bytes(to, bytes.get(from..).unwrap_or(&[]))
+    to.append(bytes.get(from..).unwrap_or(&[]))
 }
 
 /// Appends bytes without the backslash before each `|`, as they are in a cell.
-pub fn push_unbarred(to: &mut String, bytes: &[u8]) -> Result<(), AllocError> {
+pub fn push_unbarred<T: Append>(to: &mut T, bytes: &[u8]) -> Result<(), AllocError> {
     let mut from = 0;
     for (at, pair) in bytes.windows(2).enumerate() {
         if matches!(pair, [b'\\', b'|']) {
-            push_bytes(to, bytes.get(from..at).unwrap_or(&[]))?;
+            to.append(bytes.get(from..at).unwrap_or(&[]))?;
             from = at.saturating_add(1);
         }
     }
-    push_bytes(to, bytes.get(from..).unwrap_or(&[]))
+    to.append(bytes.get(from..).unwrap_or(&[]))
 }

@@ -1,4 +1,4 @@
-// Where HTML is written.
+// Where HTML is written. It is kept as bytes, which are looked at once at the end: pieces of a text need not be.
 //
 // A request for memory that is refused is kept in mind, and nothing is written after it. So whoever writes need not ask
 // after each piece, but once at the end.
@@ -11,7 +11,7 @@ use std::{mem, str};
 #[derive(Drop)]
 pub(crate) struct Writer {
     alloc: Global,
-    text: String,
+    bytes: Vec<u8>,
     /// Whether a request for memory was refused.
     is_refused: bool,
 }
@@ -21,18 +21,29 @@ impl Writer {
     pub(crate) fn new(alloc: Global) -> Writer {
         Writer {
             alloc,
-            text: String::new(alloc),
+            bytes: Vec::new(alloc),
             is_refused: false,
         }
     }
 
-    /// What is written, and whether a request for memory was refused before all of it was.
+    /// What is written, and whether a request for memory was refused before all of it was. It is empty where it is no
+    /// text, which it is of all that a parse returns.
     pub(crate) fn finish(self) -> (String, bool) {
-        (self.text, self.is_refused)
+        let Writer {
+            alloc,
+            bytes,
+            is_refused,
+        } = self;
+        let text = String::from_utf8(bytes).unwrap_or(String::new(alloc));
+        (text, is_refused)
     }
 
     pub(crate) fn as_str(&self) -> &str {
-        self.text.as_str()
+        str::from_utf8(self.bytes()).unwrap_or("")
+    }
+
+    pub(crate) fn bytes(&self) -> &[u8] {
+        self.bytes.as_slice()
     }
 
     pub(crate) fn is_refused(&self) -> bool {
@@ -45,77 +56,68 @@ impl Writer {
     }
 
     pub(crate) fn clear(&mut self) {
-        self.text.clear();
+        self.bytes.clear();
     }
 
     /// Begins to write elsewhere, and returns what is written until then.
-    pub(crate) fn replace(&mut self, text: String) -> String {
-        mem::replace(&mut self.text, text)
+    pub(crate) fn replace(&mut self, bytes: Vec<u8>) -> Vec<u8> {
+        mem::replace(&mut self.bytes, bytes)
     }
 
     /// The same, elsewhere being empty.
-    pub(crate) fn take(&mut self) -> String {
-        let empty = String::new(self.alloc);
-        mem::replace(&mut self.text, empty)
+    pub(crate) fn take(&mut self) -> Vec<u8> {
+        let empty = Vec::new(self.alloc);
+        mem::replace(&mut self.bytes, empty)
     }
 
     /// Writes a text as it is.
     pub(crate) fn push(&mut self, text: &str) {
-        if !self.is_refused {
-            self.is_refused = self.text.push_str(text).is_err();
-        }
-    }
-
-    pub(crate) fn push_char(&mut self, c: char) {
-        if !self.is_refused {
-            self.is_refused = self.text.push(c).is_err();
-        }
+        self.push_bytes(text.as_bytes());
     }
 
     pub(crate) fn push_number(&mut self, number: usize) {
-        if !self.is_refused {
-            self.is_refused = write!(self.text, "{number}").is_err();
-        }
+        let mut digits = String::new(self.alloc);
+        self.refuse(write!(digits, "{number}").is_err());
+        self.push(digits.as_str());
     }
 
     /// Writes a part of the text as it is.
     pub(crate) fn push_bytes(&mut self, bytes: &[u8]) {
-        self.push(str::from_utf8(bytes).unwrap_or(""));
+        if !self.is_refused {
+            self.is_refused = self.bytes.extend_from_slice(bytes).is_err();
+        }
     }
 
     /// Writes a part of the text, so that a browser shows it as it is.
     pub(crate) fn push_escaped(&mut self, bytes: &[u8]) {
         if !self.is_refused {
-            self.is_refused = texts::push_escaped(&mut self.text, bytes).is_err();
+            self.is_refused = texts::push_escaped(&mut self.bytes, bytes).is_err();
         }
     }
 
     /// Writes a part of the text as it is, but for zero characters.
     pub(crate) fn push_shown(&mut self, bytes: &[u8]) {
         if !self.is_refused {
-            self.is_refused = texts::push_shown(&mut self.text, bytes).is_err();
+            self.is_refused = texts::push_shown(&mut self.bytes, bytes).is_err();
         }
     }
 
     /// Writes bytes without the backslash before each `|`.
     pub(crate) fn push_unbarred(&mut self, bytes: &[u8]) {
         if !self.is_refused {
-            self.is_refused = texts::push_unbarred(&mut self.text, bytes).is_err();
+            self.is_refused = texts::push_unbarred(&mut self.bytes, bytes).is_err();
         }
     }
 
     /// Writes what a character reference means.
     pub(crate) fn push_reference(&mut self, reference: &[u8]) {
         if !self.is_refused {
-            self.is_refused = texts::push_reference(&mut self.text, reference).is_err();
+            self.is_refused = texts::push_reference(&mut self.bytes, reference).is_err();
         }
     }
 
     /// Whether the last byte ends a line, or there is none.
     pub(crate) fn is_line_start(&self) -> bool {
-        matches!(
-            self.text.as_bytes().last(),
-            None | Some(b'\n') | Some(b'\r')
-        )
+        matches!(self.bytes.last(), None | Some(b'\n') | Some(b'\r'))
     }
 }
