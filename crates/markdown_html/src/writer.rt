@@ -26,8 +26,8 @@ impl Writer {
         }
     }
 
-    /// What is written, and whether a request for memory was refused before all of it was. It is empty where it is no
-    /// text, which it is of all that a parse returns.
+    /// What is written, and whether a request for memory was refused before all of it was. Of what a parse returns it is
+    /// text; of other events it may not be UTF-8, and then it is empty.
     pub(crate) fn finish(self) -> (String, bool) {
         let Writer {
             alloc,
