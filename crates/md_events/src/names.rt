@@ -84,6 +84,7 @@ pub fn is_block(name: Name) -> bool
 
 /// Whether these events are of a text part, which an inline layer reads: the text of a paragraph, a heading or a cell,
 /// a label, a destination, a title, or what follows the opening sequence of fenced code or math.
+#[inline(always)]
 pub fn is_text_part(name: Name) -> bool
     ensures { result ≡ is_part name }
 {

@@ -33,19 +33,15 @@ const SAMPLE: usize = 8;
 /// How many events to make room for where `need` are to be written and `following` others have to be moved, after
 /// `read` were read. Room was made for `added` before, and now `lacking` more are needed.
 ///
-/// It is as many as the others take if they grow as those did, at most a quarter of their number the first time and
-/// then half of it, and at least a sixteenth of it, so that in all the moves are linear in the events.
+/// It is as many as the others take if they grow as those did, at most half of their number the first time and then all
+/// of it, and at least a sixteenth of it, so that in all the moves are linear in the events.
 fn room_for(need: usize, lacking: usize, added: usize, read: usize, following: usize) -> usize
     ensures enough { need ≤ result }
     ensures some { 0 < result }
 {
     let grown = added.saturating_add(lacking);
     let expected = following.saturating_mul(grown) / read.max(SAMPLE);
-    let most = if added == 0 {
-        following / 4
-    } else {
-        following / 2
-    };
+    let most = if added == 0 { following / 2 } else { following };
     need.max(expected.min(most)).max(following / 16).max(LEAST)
 }
 
