@@ -161,7 +161,7 @@ no-addresses (part name inside following) before text h room =
     go false first second = ap (part name (merged inside)) second
 
 -- such a text is added as one token
-plain-joined : (more : ℕ) (before text : List ℕ) (len : ℕ) (rest : List Token) → has_at_sign text ≡ false →
+pub plain-joined : (more : ℕ) (before text : List ℕ) (len : ℕ) (rest : List Token) → has_at_sign text ≡ false →
     length text ≤ more →
     joined_after len (tokens (emails_at_most more before text) ++ rest) ≡ joined_after (len + length text) rest
 plain-joined zero before [] len rest h room =

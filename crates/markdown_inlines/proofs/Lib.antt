@@ -23,6 +23,7 @@ pub mod AddressedLemmas
 pub mod AtSignLemmas
 pub mod QuietLemmas
 pub mod AddedLemmas
+pub mod SignLemmas
 pub mod PlaceLemmas
 pub mod StringTokens
 pub mod LayerLemmas

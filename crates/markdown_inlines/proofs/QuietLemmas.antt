@@ -5,7 +5,7 @@ use Rattle.std.specs.Prelude.{◌==◌, ◌||◌, nat_le, codes, map, not, Optio
 use Rattle.std.specs.Char.{to_ascii_lowercase}
 use Rattle.std.specs.List.{prefix_len, take_while}
 use Rattle.std.proofs.lemmas.Bool.Decides.{nat_tests}
-use Rattle.std.proofs.lemmas.List.{drop-drop, get_or-take, length-drop}
+use Rattle.std.proofs.lemmas.List.{drop-drop, get_or-take, length-drop, reverse-append}
 use Rattle.std.proofs.lemmas.List.Sums.{prefix_len_passes}
 use Rattle.std.proofs.lemmas.Slice.Eq.{bytes_eq-Decides}
 use Rattle.std.proofs.Math.ListN.{get_or-map}
@@ -14,6 +14,7 @@ use Rattle.md_engine.specs.declared.event.Name.TheVariants as n
 use Rattle.md_meaning.specs.Ascii.{dot}
 use Rattle.md_meaning.specs.Html.{starts_in_any_case}
 use Rattle.md_meaning.specs.Lines.{begins_with}
+use Rattle.md_inlines.specs.Addresses.{is_before}
 use Rattle.md_inlines.specs.Autolink.{at_sign}
 use Rattle.md_inlines.specs.Literal.{email_at, email_len, is_host, is_host_byte, is_local_byte, may_follow}
 use Rattle.md_inlines.specs.Literal.{without_last, xmpp_len}
@@ -26,7 +27,7 @@ use Rattle.md_inline_events.specs.Tokens.{tokens}
 use Rattle.md_inline_events.specs.declared.token.Token.{Token}
 use Rattle.md_inline_events.specs.declared.token.Token.TheVariants as t
 use Rattle.proof_inlines.proofs.LiteralLemmas.{email-at-is}
-use Rattle.markdown_inlines.specs.Addressed.{at_after, first_token, joined_after, quiet_len, token_of}
+use Rattle.markdown_inlines.specs.Addressed.{at_after, closed_len, first_token, joined_after, quiet_len, token_of}
 use Rattle.markdown_inlines.proofs.AddressedLemmas.{take-further}
 
 colon-is : (b : ℕ) → to_ascii_lowercase b ≡ 58 → b ≡ 58
@@ -240,6 +241,49 @@ quiet-emails (suc len) before (b ∷ text) count rest none run =
         ap (λ (p : Bool). cond p (1 + prefix_len is_local_byte text) 0) is_local in
         omega (arith, more, run)
 
+-- none begins after a byte after which none may
+
+closed-none : (before text : List ℕ) → may_follow before ≡ false → email_at before text ≡ None
+unfolding email_at
+closed-none before text may = rw (may) refl
+
+may-follow-last : (before : List ℕ) (b : ℕ) → may_follow (before ++ b ∷ []) ≡ is_before b
+may-follow-last before b = rw (reverse-append before (b ∷ []), may_follow) refl
+
+closed-emails : (len : ℕ) (before text : List ℕ) (count : ℕ) (rest : List Token) → may_follow before ≡ false →
+    len ≤ closed_len text →
+    joined_after count (tokens (emails_in before text) ++ rest) ≡
+    joined_after (count + len) (tokens (emails_in (before ++ take len text) (drop len text)) ++ rest)
+closed-emails zero before text count rest may run =
+    let same : count ≡ count + 0 = omega arith in
+    ap (λ (k : ℕ). joined_after k (tokens (emails_in before text) ++ rest)) same
+    ∙ ap (λ (l : List ℕ). joined_after (count + 0) (tokens (emails_in l text) ++ rest)) (sym (append-nil before))
+closed-emails (suc len) before [] count rest may run = absurd (omega (arith, run))
+closed-emails (suc len) before (b ∷ text) count rest may run =
+    ap (λ (l : List Token). joined_after count (l ++ rest))
+    (email-none before b text (closed-none before (b ∷ text) may))
+    ∙ closed-emails len (before ++ b ∷ []) text (count + 1) rest (may-follow-last before b ∙ is_closed) shorter
+    ∙ ap (λ (k : ℕ). joined_after k (tokens (emails_in ((before ++ b ∷ []) ++ take len text) (drop len text)) ++ rest))
+    sum
+    ∙ ap (λ (l : List ℕ). joined_after (count + suc len) (tokens (emails_in l (drop len text)) ++ rest))
+    (append_assoc before (b ∷ []) (take len text))
+  where
+    sum : count + 1 + len ≡ count + suc len
+    sum = omega arith
+
+    is_closed : is_before b ≡ false
+    is_closed = go (is_before b) run
+      where
+        go : (p : Bool) → suc len ≤ cond (not p) (1 + closed_len text) 0 → p ≡ false
+        go true h = absurd (omega (arith, h))
+        go false h = refl
+
+    shorter : len ≤ closed_len text
+    shorter =
+        let more : closed_len (b ∷ text) ≡ 1 + closed_len text =
+        ap (λ (p : Bool). cond (not p) (1 + closed_len text) 0) is_closed in
+        omega (arith, more, run)
+
 -- the addresses of a text from a place on
 abbrev pub emails_from : List ℕ → ℕ → List Token
 emails_from text at = tokens (emails_in (take at text) (drop at text))
@@ -264,26 +308,36 @@ quiet-step before all b text count rest is none =
         ∙ ap (λ (l : List ℕ). joined_after (count + 1) (tokens (emails_in (before ++ take 1 l) (drop 1 l)) ++ rest))
         (sym is)
 
+    closed : (r : Bool) → may_follow before ≡ false → nat_le 1 (closed_len all) ≡ r →
+        joined_after count (tokens (emails_in before all) ++ rest) ≡ from (cond r (closed_len all) 1)
+    closed true may some = closed-emails (closed_len all) before all count rest may (omega arith)
+    closed false may some = one
+
     go : (p q : Bool) → may_follow before ≡ p → nat_le 7 (prefix_len is_local_byte all) ≡ q →
         joined_after count (tokens (emails_in before all) ++ rest) ≡
-        from (cond (p && q) (prefix_len is_local_byte all - 6) 1)
+        from
+        (cond (not p) (cond (nat_le 1 (closed_len all)) (closed_len all) 1) (cond q (prefix_len is_local_byte all - 6) 1))
     go true true may long =
         let run : 7 ≤ prefix_len is_local_byte all = grind (arith, nat_tests) in
         quiet-emails (prefix_len is_local_byte all - 6) before all count rest (no-length before all run may none)
         (omega (arith, run))
     go true false may long = one
-    go false q may long = one
+    go false q may long = closed (nat_le 1 (closed_len all)) may refl
 
 quiet-some : (before all : List ℕ) → 0 < quiet_len before all
-quiet-some before all = go (may_follow before) (nat_le 7 (prefix_len is_local_byte all)) refl
+quiet-some before all =
+    go (may_follow before) (nat_le 7 (prefix_len is_local_byte all)) (nat_le 1 (closed_len all)) refl refl
   where
-    go : (p q : Bool) → nat_le 7 (prefix_len is_local_byte all) ≡ q →
-        0 < cond (p && q) (prefix_len is_local_byte all - 6) 1
-    go true true long =
+    go : (p q r : Bool) → nat_le 7 (prefix_len is_local_byte all) ≡ q → nat_le 1 (closed_len all) ≡ r →
+        0 < cond (not p) (cond r (closed_len all) 1) (cond q (prefix_len is_local_byte all - 6) 1)
+    go true true r long some =
         let run : 7 ≤ prefix_len is_local_byte all = grind (arith, nat_tests) in
         omega (arith, run)
-    go true false long = omega arith
-    go false q long = omega arith
+    go true false r long some = omega arith
+    go false q true long some =
+        let run : 1 ≤ closed_len all = grind (arith, nat_tests) in
+        omega (arith, run)
+    go false q false long some = omega arith
 
 -- What is first in a text: an address, or text in which none begins.
 

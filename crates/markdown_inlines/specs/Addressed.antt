@@ -1,13 +1,14 @@
 -- E-mail addresses in the text of tokens, and text beside text as one token. What is open is counted, so that nothing
 -- is as deep as the text is.
 use Rattle.std.specs.Prelude.{ℕ, zero, suc, ◌+◌, ◌-◌, Bool, false, ◌&&◌, ◌==◌, nat_le, if◌then◌else◌, List, [], ◌∷◌, ◌++◌}
-use Rattle.std.specs.Prelude.{take, drop, Option, Some, None}
+use Rattle.std.specs.Prelude.{◌||◌, take, drop, length, not, Option, Some, None}
 use Rattle.std.specs.List.{list_any, prefix_len}
 use Rattle.md_engine.specs.declared.event.Name.{Name}
 use Rattle.md_engine.specs.declared.event.Name.TheVariants as n
 use Rattle.md_inline_events.specs.Tokens.{tokens}
 use Rattle.md_inline_events.specs.declared.token.Token.{Token}
 use Rattle.md_inline_events.specs.declared.token.Token.TheVariants as t
+use Rattle.md_inlines.specs.Addresses.{is_before}
 use Rattle.md_inlines.specs.Atoms.{is_data, literal_name}
 use Rattle.md_inlines.specs.Autolink.{at_sign}
 use Rattle.md_inlines.specs.Emails.{emails_in, holds_text}
@@ -66,6 +67,21 @@ searched text hidden at [] = []
 searched text hidden at (token ∷ list) =
     token_searched text hidden at token ++ searched text (hidden_after hidden token) (at_after at token) list
 
+-- Whether a token at a place of a text is searched, and an `@` is in it. One that is longer than the text counts too.
+abbrev pub has_sign_at : List ℕ → ℕ → Option ℕ → Bool
+has_sign_at text at None = false
+has_sign_at text at (Some len) =
+    let piece : List ℕ = drop at (take (at + len) text) in not (length piece == len) || has_at_sign piece
+
+abbrev pub is_with_sign : List ℕ → ℕ → ℕ → Token → Bool
+is_with_sign text hidden at token = (hidden == 0) && has_sign_at text at (data_len token)
+
+-- whether one of these is, from a place of a text on
+abbrev pub are_with_sign : List ℕ → ℕ → ℕ → List Token → Bool
+are_with_sign text hidden at [] = false
+are_with_sign text hidden at (token ∷ list) =
+    is_with_sign text hidden at token || are_with_sign text (hidden_after hidden token) (at_after at token) list
+
 -- text of so many bytes
 abbrev pub texts : ℕ → List Token
 texts zero = []
@@ -78,12 +94,17 @@ joined_after len (t.Over name more ∷ list) =
     if is_data name then joined_after (len + more) list else texts len ++ t.Over name more ∷ joined_after 0 list
 joined_after len (token ∷ list) = texts len ++ token ∷ joined_after 0 list
 
--- How many bytes come first at which no address begins, if none does at the first: those of what may be before an `@`,
--- but for the last six, which may be `mailto`.
+-- how many bytes come first after which no address may begin
+abbrev pub closed_len : List ℕ → ℕ
+closed_len text = prefix_len (λ b. not (is_before b)) text
+
+-- How many bytes come first at which no address begins, if none does at the first: those after which none may begin,
+-- where none may at the first; else those of what may be before an `@`, but for the last six, which may be `mailto`.
 abbrev pub quiet_len : List ℕ → List ℕ → ℕ
 quiet_len before text =
     let local : ℕ = prefix_len is_local_byte text in
-    if may_follow before && nat_le 7 local then local - 6 else 1
+    let closed : ℕ = closed_len text in
+    if not (may_follow before) then if nat_le 1 closed then closed else 1 else if nat_le 7 local then local - 6 else 1
 
 -- what is first in a text after another: an address, or so many bytes of text
 abbrev pub token_of : Option Literal → ℕ → Token

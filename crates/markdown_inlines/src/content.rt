@@ -57,7 +57,7 @@ fn tokens_from(
     let spans = read(alloc, source)?;
     let tokens = tokens_of(alloc, &spans, start, text.len())?;
     if may_have_address(options.constructs.gfm_autolink_literal, after(text, start)) {
-        with_addresses(alloc, text, start, &tokens)
+        with_addresses(alloc, text, start, tokens)
     } else {
         Ok(tokens)
     }

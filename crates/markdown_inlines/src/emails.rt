@@ -37,7 +37,7 @@ fn has_at_sign(text: &[u8]) -> bool
     text.contains(&b'@')
 }
 
-/// Whether addresses are searched in a text: none is where no `@` is. `literals` says whether they are read.
+/// Whether an address may be in a text: none is where no `@` is. `literals` says whether they are read.
 pub(crate) fn may_have_address(literals: bool, text: &[u8]) -> bool
     ensures { result ≡ (literals && spec.has_at_sign text.now) }
 {
@@ -45,6 +45,7 @@ pub(crate) fn may_have_address(literals: bool, text: &[u8]) -> bool
 }
 
 /// How many bytes of text a token is; none of another.
+#[inline(always)]
 fn data_len(token: Token) -> Option<usize>
     ensures { result ≡ spec.data_len token }
 {
@@ -91,7 +92,10 @@ fn add(joined: &mut Joined, token: Token) -> Result<(), Message>
 fn is_before(byte: u8) -> bool
     ensures { result ≡ addresses.is_before byte }
 {
-    byte.is_ascii_whitespace() || b"*_~(".contains(&byte)
+    matches!(
+        byte,
+        b' ' | b'\t' | b'\n' | b'\x0c' | b'\r' | b'*' | b'_' | b'~' | b'('
+    )
 }
 
 /// Whether an address may begin after a text.
@@ -104,12 +108,20 @@ fn may_follow(before: &[u8]) -> bool
     }
 }
 
+/// How many bytes come first after which no address may begin.
+fn closed_len(text: &[u8]) -> usize
+    ensures { result ≡ spec.closed_len text.now }
+{
+    text.iter().take_while(|byte| !is_before(**byte)).count()
+}
+
 /// How many bytes come first at which no address begins, if none does at the first.
 fn quiet_len(before: &[u8], text: &[u8]) -> usize
     ensures { result ≡ spec.quiet_len before.now text.now }
 {
     if !may_follow(before) {
-        return 1;
+        let closed = closed_len(text);
+        return if closed >= 1 { closed } else { 1 };
     }
     let local = class_len(Class::BareLocal, text);
     if local >= 7 { local - 6 } else { 1 }
@@ -126,6 +138,7 @@ fn first_token(before: &[u8], text: &[u8]) -> Token
 }
 
 /// Where a text is read after a token.
+#[inline(always)]
 fn at_after(at: usize, token: Token) -> Result<usize, Message>
     ensures { IfOk result (λ place. place ≡ spec.at_after at token) }
 {
@@ -188,6 +201,7 @@ fn add_searched(
 }
 
 /// How many parts are open of which the text is not searched, or that are in one, after one more begins.
+#[inline(always)]
 fn begun(hidden: usize, name: Name) -> Result<usize, Message>
     ensures { IfOk result (λ count. count ≡ spec.begun hidden name) }
 {
@@ -199,6 +213,7 @@ fn begun(hidden: usize, name: Name) -> Result<usize, Message>
 }
 
 /// How many such parts are open after a token.
+#[inline(always)]
 fn hidden_after(hidden: usize, token: Token) -> Result<usize, Message>
     ensures { IfOk result (λ count. count ≡ spec.hidden_after hidden token) }
 {
@@ -209,28 +224,72 @@ fn hidden_after(hidden: usize, token: Token) -> Result<usize, Message>
     }
 }
 
+/// Whether a token at a place of a text is searched, and an `@` is in it. So many parts are open of which the text is not
+/// searched.
+///
+/// An `Err` says that the text is longer than one in memory can be.
+#[inline(always)]
+fn is_with_sign(text: &[u8], hidden: usize, at: usize, token: Token) -> Result<bool, Message>
+    ensures { IfOk result (λ found. found ≡ spec.is_with_sign text.now hidden at token) }
+{
+    if hidden != 0 {
+        return Ok(false);
+    }
+    match data_len(token) {
+        Some(len) => {
+            let piece = after(front(text, past(at, len)?), at);
+            Ok(piece.len() != len || has_at_sign(piece))
+        }
+        None => Ok(false),
+    }
+}
+
+/// Whether an `@` is in the tokens of a text from a place on that are searched.
+///
+/// An `Err` says that the text is longer than one in memory can be.
+fn are_with_sign(text: &[u8], start: usize, tokens: &[Token]) -> Result<bool, Message>
+    ensures { IfOk result (λ found. found ≡ spec.are_with_sign text.now 0 start tokens.now) }
+{
+    let mut at = start;
+    let mut hidden = 0;
+    let mut rest = tokens;
+    while let Some((token, following)) = rest.split_first() {
+        if is_with_sign(text, hidden, at, *token)? {
+            return Ok(true);
+        }
+        at = at_after(at, *token)?;
+        hidden = hidden_after(hidden, *token)?;
+        rest = following;
+    }
+    Ok(false)
+}
+
 /// The tokens of a forest over a text from a place on, with the addresses in its text; of these tokens, no text is
-/// beside text.
+/// beside text, as it is not in what is given. Most `@` are in links, where no address is.
 ///
 /// An `Err` says that memory ran out.
 pub(crate) fn with_addresses(
     alloc: Global,
     text: &[u8],
     start: usize,
-    tokens: &[Token],
+    tokens: Vec<Token>,
 ) -> Result<Vec<Token>, Message>
     ensures { IfOk result (λ made. (forest : Forest) → has_names forest ≡ true → is_readable forest ≡ true →
-        start + size forest ≡ length text.now → tokens.now ≡ tokens_of forest →
+        atoms.merged forest ≡ forest → start + size forest ≡ length text.now → tokens.items ≡ tokens_of forest →
         made.items ≡ tokens_of
         (atoms.merged (emails.with_emails (take start text.now) (drop start text.now) forest))) }
 {
+    let is_searched = are_with_sign(text, start, &tokens)?;
+    if !is_searched {
+        return Ok(tokens);
+    }
     let mut joined = Joined {
         tokens: with_room(alloc, tokens.len())?,
         text: 0,
     };
     let mut at = start;
     let mut hidden = 0;
-    let mut rest = tokens;
+    let mut rest = tokens.as_slice();
     while let Some((token, following)) = rest.split_first() {
         add_searched(&mut joined, text, hidden, at, *token)?;
         at = at_after(at, *token)?;

@@ -29,7 +29,7 @@ returns-then-may_have_address c =
     IfOk-weaker c.with_addresses.result _ _
     (λ made is.
     searched-tokens c.args.options.now definitions footnotes c.args.text.now c.args.start on made.items
-    (is (merged level) whole.names whole.readable whole.sized (c.deref-then-may_have_address.ensures.value ∙ plain)))
+    (is (merged level) whole.names whole.readable whole.again whole.sized plain))
     c.with_addresses.ensures
 
 pub returns : goal.returns
