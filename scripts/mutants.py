@@ -29,7 +29,7 @@ REPORTS = {"events": "events", "outline": "outline", "position": "outline", "hea
            "tree": "tree", "spans": "outline", "source": "tree", "builder": "tree"}
 # The program, or what the first argument of a caller is, by the crate.
 PROGRAMS = {"md_program": "blocks", "hoxalgurre_c": "%c"}
-LEAST, LEAST_SCORE = 409, 97
+LEAST, LEAST_SCORE = 417, 97
 
 Mutant = namedtuple("Mutant", "number file comment old new")
 

@@ -37,6 +37,9 @@ MADE = [
     "> [!CAUTION]\nb\n\n> > [!warning]\n> > a\n", "- [ ] a\n- [x] b\n", "x" * 5000 + "\n",
     "".join(f"A line of many words, {mark} and more of them\n\nA line of as many words that ends with {mark}.\n\n"
             for mark in ('"', "\0", "<", ">", "&")),
+    "".join(f"[a](<https://example.org/{mark}/and/more>) ![b](<{mark}>) [c](<abcdefghijklmnop{mark}>)\n\n"
+            for mark in (*"\0\1\x7f \"&'*[]^_`{|}~\xe9", "\\a")),
+    "A line\nof text\n*and one* of\nit ![an image\nof lines\nand](b \"c\nd\") in\r\nthe [f\ng](h) `i\nj`\nk\n",
 ]
 
 

@@ -189,7 +189,7 @@ fn print_all(
                 if is_json && !is_first {
                     print(rt, ",\n")?;
                 }
-                print(rt, report.text.as_str())?;
+                print_bytes(rt, &report.text)?;
                 is_first = false;
             }
             Err(refusal) => {
@@ -211,7 +211,11 @@ fn print_head(rt: &HostRuntime, file: &str) -> Result<(), Trouble> {
 }
 
 fn print(rt: &HostRuntime, text: &str) -> Result<(), Trouble> {
-    rt.stdout().write_all(text.as_bytes())?;
+    print_bytes(rt, text.as_bytes())
+}
+
+fn print_bytes(rt: &HostRuntime, bytes: &[u8]) -> Result<(), Trouble> {
+    rt.stdout().write_all(bytes)?;
     Ok(())
 }
 

@@ -1,6 +1,7 @@
 // Addresses of links and images.
 
 use crate::writer::Writer;
+use std::simd::prelude::*;
 
 /// What is written in place of a byte of an address, if it is none that is written as it is and none that is encoded.
 fn replaced(byte: u8) -> Option<&'static str> {
@@ -37,8 +38,41 @@ fn push_encoded(out: &mut Writer, byte: u8) {
     out.push_bytes(&[b'%', digit(byte / 16), digit(byte % 16)]);
 }
 
+/// Whether each of 16 bytes of an address is written as it is; false of fewer.
+#[inline(always)]
+fn are_plain(bytes: &[u8]) -> bool {
+    if bytes.len() < 16 {
+        return false;
+    }
+    let lanes = u8x16::from_slice(bytes);
+    let others = lanes.simd_lt(u8x16::splat(b'!'))
+        | lanes.simd_eq(u8x16::splat(b'"'))
+        | lanes.simd_eq(u8x16::splat(b'&'))
+        | lanes.simd_eq(u8x16::splat(b'\''))
+        | lanes.simd_eq(u8x16::splat(b'<'))
+        | lanes.simd_eq(u8x16::splat(b'>'))
+        | (lanes.simd_ge(u8x16::splat(b'[')) & lanes.simd_le(u8x16::splat(b'^')))
+        | lanes.simd_eq(u8x16::splat(b'`'))
+        | lanes.simd_ge(u8x16::splat(b'{')) & lanes.simd_ne(u8x16::splat(b'~'));
+    others.to_bitmask() == 0
+}
+
+/// Whether each byte of an address is written as it is, which is not looked for in one of fewer than 16.
+fn is_plain_address(bytes: &[u8]) -> bool {
+    for chunk in bytes.chunks_exact(16) {
+        if !are_plain(chunk) {
+            return false;
+        }
+    }
+    let last = bytes.len().saturating_sub(16);
+    are_plain(bytes.get(last..).unwrap_or(&[]))
+}
+
 /// Writes an address, so that it may be in an attribute: bytes that are none of an address are percent-encoded.
 pub(crate) fn push_address(out: &mut Writer, bytes: &[u8]) {
+    if is_plain_address(bytes) {
+        return out.push_bytes(bytes);
+    }
     let mut from = 0;
     for (at, byte) in bytes.iter().enumerate() {
         if !is_plain(*byte) {

@@ -68,6 +68,11 @@ impl Inside {
         self.scratch.is_refused()
     }
 
+    /// Whether text and line endings are written as they are in the text, or not at all.
+    pub(crate) fn is_plain(&self) -> bool {
+        self.images == 0 && !self.is_code
+    }
+
     /// Whether text is written that is here.
     fn is_shown(&self, around: Around) -> bool {
         around.is_text && !self.is_hidden

@@ -27,4 +27,4 @@ pub mod texts;
 mod writer;
 
 pub use crate::options::{HtmlOptions, LineEnding};
-pub use crate::page::{html, html_with_ids};
+pub use crate::page::{html, html_bytes, html_with_ids};

@@ -25,9 +25,9 @@ struct Open {
 
 /// What is known after some of the events.
 #[derive(Drop)]
-struct Walk {
+pub(crate) struct LooseWalk {
     /// Whether a list is loose, for each list that has begun.
-    loose: Vec<bool>,
+    pub(crate) loose: Vec<bool>,
     /// The blocks, lists and items that are open, the innermost last.
     open: Vec<Open>,
     /// How many of them are quotes.
@@ -41,44 +41,22 @@ struct Walk {
     ends: usize,
 }
 
-/// Whether each list is loose, in the order in which lists begin.
-pub(crate) fn loose_lists(alloc: Global, events: &[Event]) -> Result<Vec<bool>, AllocError> {
-    let mut walk = Walk {
-        loose: Vec::new(alloc),
-        open: Vec::new(alloc),
-        quotes: 0,
-        prefixes: 0,
-        quoted: 0,
-        begins: 0,
-        ends: 0,
-    };
-    for event in events {
-        if !is_in_line(event.name) {
-            walk.read(event)?;
+impl LooseWalk {
+    /// A walk that has begun with no event.
+    pub(crate) fn new(alloc: Global) -> LooseWalk {
+        LooseWalk {
+            loose: Vec::new(alloc),
+            open: Vec::new(alloc),
+            quotes: 0,
+            prefixes: 0,
+            quoted: 0,
+            begins: 0,
+            ends: 0,
         }
     }
-    Ok(walk.loose)
-}
 
-/// Whether this is a name of what is in a line, or ends one that is not blank. Most events have one of these: the others
-/// of the kind say nothing of lists either, but are looked at.
-#[inline(always)]
-fn is_in_line(name: Name) -> bool {
-    match name {
-        Name::SpaceOrTab | Name::LineEnding | Name::Data => true,
-        Name::Link | Name::Label | Name::LabelLink | Name::LabelMarker | Name::LabelText => true,
-        Name::LabelEnd | Name::Resource | Name::ResourceMarker => true,
-        Name::ResourceDestination | Name::ResourceDestinationRaw => true,
-        Name::ResourceDestinationString | Name::Reference | Name::ReferenceMarker => true,
-        Name::CodeText | Name::CodeTextSequence | Name::CodeTextData => true,
-        Name::Emphasis | Name::EmphasisSequence | Name::EmphasisText => true,
-        Name::Strong | Name::StrongSequence | Name::StrongText => true,
-        _ => false,
-    }
-}
-
-impl Walk {
-    fn read(&mut self, event: &Event) -> Result<(), AllocError> {
+    /// Reads an event.
+    pub(crate) fn read(&mut self, event: &Event) -> Result<(), AllocError> {
         match event.kind {
             Kind::Enter if is_block(event.name) => self.enter(event.name)?,
             Kind::Exit if is_block(event.name) => self.exit(event.name, event.point.line),

@@ -6,17 +6,19 @@
 //
 // A footnote definition is written apart, and where the page ends those that are shown become its last section.
 
+ghost use Rattle.std.specs.Prelude.{◌≤◌, length};
+
 use crate::ahead::{Alert, alert_at, atx_heading, list_start, read_columns, setext_heading};
 use crate::footnotes::{begin_section, end_section, push_note};
 use crate::inside::{Around, Inside};
 use crate::known::{Known, ending_of};
 use crate::lists::Lists;
-use crate::loose::loose_lists;
+use crate::loose::LooseWalk;
 use crate::notes::{Notes, numbered_notes};
 use crate::options::HtmlOptions;
-use crate::survey::{Target, survey_of};
+use crate::survey::{SurveyWalk, Target};
 use crate::table::Table;
-use crate::tags::{Shown, Sort, begin_tag, begins_line, end_tag, shown_after, shown_in, sort_of};
+use crate::tags::{Noted, Shown, Sort, noted_of, sort_of};
 use crate::targets::{most_repeated, targets};
 use crate::writer::Writer;
 use md_engine::event::{Event, Kind, Name, Point};
@@ -24,7 +26,7 @@ use md_engine::message::Message;
 use md_engine::parse_state::ParseState;
 use md_events::labels::Labels;
 use md_events::slice::{Position, Slice, between};
-use std::alloc::Global;
+use std::alloc::{AllocError, Global};
 use std::mem;
 
 /// What is known of the whole text before the page is written.
@@ -50,7 +52,9 @@ struct OpenNote {
 struct Page<'a, 'b> {
     known: Known<'a, 'b>,
     out: Writer,
-    /// Where the part begins that was entered last.
+    /// Whether a line that the text does not have ends with a line feed.
+    ends_by_feed: bool,
+    /// Where the piece begins that was entered last.
     start: Point,
     /// What becomes of the texts and line endings that come next.
     shown: Shown,
@@ -67,6 +71,25 @@ struct Page<'a, 'b> {
     bodies: Vec<Vec<u8>>,
 }
 
+/// Walks over the events of a text once, for what has to be known before the page is written: what a survey lists, and
+/// which lists are loose.
+fn walk(alloc: Global, events: &[Event]) -> Result<(SurveyWalk, LooseWalk), AllocError> {
+    let mut survey = SurveyWalk::new(alloc);
+    let mut lists = LooseWalk::new(alloc);
+    for (at, event) in events.iter().enumerate() {
+        match noted_of(event.name) {
+            Noted::Nothing => {}
+            Noted::Survey => survey.read(event, at)?,
+            Noted::Lists => lists.read(event)?,
+            Noted::Both => {
+                survey.read(event, at)?;
+                lists.read(event)?;
+            }
+        }
+    }
+    Ok((survey, lists))
+}
+
 /// What is known of a whole text.
 fn plan_of(
     alloc: Global,
@@ -74,13 +97,13 @@ fn plan_of(
     state: &ParseState,
     labels: &Labels,
 ) -> Result<Plan, Message> {
-    let survey = survey_of(alloc, events)?;
+    let (walked, lists) = walk(alloc, events)?;
+    let survey = walked.found;
     let targets = targets(alloc, state.bytes, events, &survey, labels)?;
     let count = state.gfm_footnote_definitions.len();
     let notes = numbered_notes(alloc, state.bytes, events, &survey.calls, labels, count)?;
-    let loose = loose_lists(alloc, events)?;
     Ok(Plan {
-        loose,
+        loose: lists.loose,
         targets,
         notes,
     })
@@ -112,6 +135,19 @@ pub fn html_with_ids<'a>(
     options: &'a HtmlOptions<'a>,
     ids: &'a [String],
 ) -> Result<String, Message> {
+    let bytes = html_bytes(alloc, events, state, options, ids)?;
+    Ok(String::from_utf8(bytes).unwrap_or(String::new(alloc)))
+}
+
+/// The same as bytes, for whoever writes them somewhere: `html_with_ids` looks at them once more. Of what a parse returns
+/// they are UTF-8; of other events they may not be, and then the string is empty.
+pub fn html_bytes<'a>(
+    alloc: Global,
+    events: &'a [Event],
+    state: &'a ParseState<'a>,
+    options: &'a HtmlOptions<'a>,
+    ids: &'a [String],
+) -> Result<Vec<u8>, Message> {
     let forms = &state.gfm_footnote_definitions;
     let labels = Labels::new(alloc, &state.definitions, forms)?;
     let plan = plan_of(alloc, events, state, &labels)?;
@@ -131,12 +167,25 @@ pub fn html_with_ids<'a>(
 }
 
 /// The HTML by what is known.
-fn write<'a, 'b>(known: Known<'a, 'b>, loose: &'a [bool]) -> Result<String, Message> {
+fn write<'a, 'b>(known: Known<'a, 'b>, loose: &'a [bool]) -> Result<Vec<u8>, Message> {
     let mut page = Page::new(known, loose);
-    for (at, event) in known.events.iter().enumerate() {
-        match event.kind {
-            Kind::Enter => page.enter(event, at),
-            Kind::Exit => page.exit(event),
+    let mut left = known.events;
+    while let [event, rest @ ..] = left {
+        let ahead = left;
+        left = rest;
+        match (sort_of(event.name), event.kind) {
+            (Sort::Quiet, _) => {}
+            (Sort::Piece, _) => {
+                if let [exit, after @ ..] = rest {
+                    let (exit, after) = page.text_to(event, exit, after);
+                    page.write_piece(event, exit.point);
+                    left = after;
+                }
+            }
+            (Sort::Block, Kind::Enter) => page.enter_block(event.name, ahead),
+            (Sort::Block, Kind::Exit) => page.exit_block(event.name),
+            (Sort::Phrase, Kind::Enter) => page.enter_phrase(event),
+            (Sort::Phrase, Kind::Exit) => page.exit_phrase(event),
         }
     }
     page.write_notes();
@@ -156,6 +205,7 @@ impl<'a, 'b> Page<'a, 'b> {
         Page {
             known,
             out: Writer::new(alloc),
+            ends_by_feed: known.ending == "\n",
             start: Point {
                 line: 1,
                 column: 1,
@@ -173,64 +223,183 @@ impl<'a, 'b> Page<'a, 'b> {
         }
     }
 
-    /// Begins a part, whose enter has this index.
-    fn enter(&mut self, event: &Event, at: usize) {
+    /// Begins what an inline layer has found in a text.
+    fn enter_phrase(&mut self, event: &Event) {
         self.start = event.point;
-        match sort_of(event.name) {
-            Sort::Quiet | Sort::Piece => {}
-            Sort::Block => self.enter_block(event.name, at),
-            Sort::Phrase => {
-                let around = self.around();
-                self.inside.enter(&self.known, &mut self.out, event, around);
+        let around = self.around();
+        self.inside.enter(&self.known, &mut self.out, event, around);
+    }
+
+    /// Ends it.
+    fn exit_phrase(&mut self, event: &Event) {
+        let piece = self.bytes_to(event.point);
+        let around = self.around();
+        self.inside
+            .exit(&self.known, &mut self.out, event, piece, around);
+    }
+
+    /// Where a text ends that begins with a piece, and what is after it: lines of text that are beside one another are
+    /// written at once.
+    fn text_to(
+        &self,
+        enter: &Event,
+        exit: &'a Event,
+        following: &'a [Event],
+    ) -> (&'a Event, &'a [Event])
+        ensures { length result.1.now ≤ length following.now }
+    {
+        if enter.name != Name::Data || !self.inside.is_plain() {
+            return (exit, following);
+        }
+        let mut end = exit;
+        let mut left = following;
+        while let [ending, _, text, last, rest @ ..] = left {
+            if ending.name != Name::LineEnding || text.name != Name::Data {
+                break;
             }
+            end = last;
+            left = rest;
         }
+        (end, left)
     }
 
-    /// Ends a part.
-    fn exit(&mut self, event: &Event) {
-        match sort_of(event.name) {
-            Sort::Quiet => {}
-            Sort::Piece => self.exit_piece(event),
-            Sort::Block => self.exit_block(event.name),
-            Sort::Phrase => {
-                let piece = self.bytes_to(event.point);
-                let around = self.around();
-                self.inside
-                    .exit(&self.known, &mut self.out, event, piece, around);
-            }
-        }
-    }
-
-    fn enter_block(&mut self, name: Name, at: usize) {
-        self.shown = shown_in(name).unwrap_or(self.shown);
-        if begins_line(name) {
-            self.begin_line();
-        }
-        self.push_tag(begin_tag(name));
-        self.enter_container(name, at);
-        self.enter_leaf(name, at);
-        self.enter_table(name, at);
-    }
-
-    fn exit_block(&mut self, name: Name) {
-        self.exit_leaf(name);
-        self.exit_table(name);
-        self.shown = shown_after(name).unwrap_or(self.shown);
-        self.push_tag(end_tag(name));
-        self.exit_container(name);
-    }
-
-    /// Ends a piece.
-    fn exit_piece(&mut self, event: &Event) {
-        match event.name {
-            Name::CodeFlowChunk | Name::MathFlowChunk => self.push_line(event.point),
-            Name::HtmlFlowData => self.push_html(event.point),
-            Name::LineEnding => self.end_line(event.point),
+    /// Writes the piece that begins with this event and ends at a point.
+    fn write_piece(&mut self, enter: &Event, end: Point) {
+        self.start = enter.point;
+        match enter.name {
+            Name::CodeFlowChunk | Name::MathFlowChunk => self.push_line(end),
+            Name::HtmlFlowData => self.push_html(end),
+            Name::LineEnding => self.end_line(end),
             _ => {
-                let piece = self.bytes_to(event.point);
+                let piece = self.bytes_to(end);
                 let around = self.around();
                 self.inside.push_text(&mut self.out, piece, around);
             }
+        }
+    }
+
+    /// Begins a block or a part of one, with which these events begin.
+    fn enter_block(&mut self, name: Name, ahead: &[Event]) {
+        match name {
+            Name::Paragraph => {
+                self.shown = Shown::Text;
+                if !self.lists.is_tight() {
+                    self.push_on_line("<p>");
+                }
+            }
+            Name::HeadingAtx => self.begin_heading(atx_heading(self.known.bytes, ahead)),
+            Name::HeadingSetext => self.begin_heading(setext_heading(self.known.bytes, ahead)),
+            Name::HeadingAtxText | Name::HeadingSetextText => self.shown = Shown::Text,
+            Name::ThematicBreak => {
+                self.begin_line();
+                self.push_ended("<hr />\n");
+            }
+            Name::CodeIndented | Name::CodeFenced | Name::MathFlow | Name::HtmlFlow => {
+                self.enter_literal(name);
+            }
+            Name::CodeFencedFenceInfo => {
+                self.shown = Shown::Text;
+                self.out.push(" class=\"language-");
+            }
+            Name::BlockQuote => {
+                self.begin_line();
+                let kind = alert_at(self.known.bytes, ahead);
+                self.begin_quote(kind);
+            }
+            Name::ListUnordered => {
+                self.begin_line();
+                self.push_ended("<ul>\n");
+                self.lists.begin_list(&mut self.out);
+            }
+            Name::ListOrdered => {
+                self.push_on_line("<ol");
+                self.lists.begin_list(&mut self.out);
+                self.end_list_tag(ahead);
+            }
+            Name::ListItem => self.push_on_line("<li>"),
+            Name::GfmFootnoteDefinition => self.begin_note(),
+            _ => self.enter_table(name, ahead),
+        }
+    }
+
+    /// Ends a block or a part of one.
+    fn exit_block(&mut self, name: Name) {
+        match name {
+            Name::Paragraph => {
+                self.shown = Shown::Nothing;
+                if !self.lists.is_tight() {
+                    self.push_ended("</p>\n");
+                }
+            }
+            Name::HeadingAtx | Name::HeadingSetext => {
+                self.out.push("</");
+                self.out.push(self.heading);
+                self.push_ended(">\n");
+            }
+            Name::HeadingAtxText | Name::HeadingSetextText => self.shown = Shown::Nothing,
+            Name::CodeFencedFence | Name::MathFlowFence => self.exit_fence(name),
+            Name::CodeIndented | Name::CodeFenced | Name::MathFlow | Name::HtmlFlow => {
+                self.exit_literal(name);
+            }
+            Name::CodeFencedFenceInfo => {
+                self.shown = Shown::Nothing;
+                self.out.push("\"");
+            }
+            Name::BlockQuote => {
+                let is_alert = self.lists.end_quote();
+                self.push_ended(if is_alert {
+                    "</div>\n"
+                } else {
+                    "</blockquote>\n"
+                });
+            }
+            Name::ListUnordered => {
+                self.push_ended("</ul>\n");
+                self.lists.end();
+            }
+            Name::ListOrdered => {
+                self.push_ended("</ol>\n");
+                self.lists.end();
+            }
+            Name::ListItem => self.push_ended("</li>\n"),
+            Name::GfmFootnoteDefinition => self.end_note(),
+            _ => self.exit_table(name),
+        }
+    }
+
+    /// Begins code, math or HTML. Indented code and HTML begin with their first line.
+    fn enter_literal(&mut self, name: Name) {
+        self.begin_line();
+        match name {
+            Name::CodeIndented => {
+                self.shown = Shown::Line;
+                self.out.push("<pre><code>");
+            }
+            Name::CodeFenced => self.out.push("<pre><code"),
+            Name::MathFlow => self
+                .out
+                .push("<pre><code class=\"language-math math-display\">"),
+            _ => self.shown = Shown::Line,
+        }
+    }
+
+    /// Ends a fence. The ending after the first fence begins the first line. The last fence is no line.
+    fn exit_fence(&mut self, name: Name) {
+        // After the first fence of code the tag of the block is still open.
+        if name == Name::CodeFencedFence && self.shown == Shown::Nothing {
+            self.out.push(">");
+        }
+        self.shown = Shown::Lines;
+    }
+
+    /// Ends code, math or HTML. The ending of the last line is outside of the block.
+    fn exit_literal(&mut self, name: Name) {
+        if self.shown == Shown::Line {
+            self.out.push(self.known.ending);
+        }
+        self.shown = Shown::Nothing;
+        if name != Name::HtmlFlow {
+            self.push_ended("</code></pre>\n");
         }
     }
 
@@ -241,19 +410,20 @@ impl<'a, 'b> Page<'a, 'b> {
         }
     }
 
-    /// The events from one on.
-    fn ahead(&self, at: usize) -> &'a [Event] {
-        self.known.events.get(at..).unwrap_or(&[])
-    }
-
-    /// Writes a tag, and ends the line if it is one after which it ends.
-    fn push_tag(&mut self, tag: (&str, bool)) {
-        if !tag.0.is_empty() {
-            self.out.push(tag.0);
-        }
-        if tag.1 {
+    /// Writes a text that ends with a line feed, by the line ending of what the text does not have.
+    fn push_ended(&mut self, text: &str) {
+        if self.ends_by_feed {
+            self.out.push(text);
+        } else {
+            self.out.push(text.strip_suffix('\n').unwrap_or(text));
             self.out.push(self.known.ending);
         }
+    }
+
+    /// Writes a text on a new line.
+    fn push_on_line(&mut self, text: &str) {
+        self.begin_line();
+        self.out.push(text);
     }
 
     /// Goes to a new line of the page, where the last one is not empty.
@@ -263,43 +433,15 @@ impl<'a, 'b> Page<'a, 'b> {
         }
     }
 
-    fn enter_container(&mut self, name: Name, at: usize) {
-        match name {
-            Name::ListUnordered => self.lists.begin_list(&mut self.out),
-            Name::ListOrdered => {
-                self.lists.begin_list(&mut self.out);
-                self.end_list_tag(at);
-            }
-            Name::BlockQuote => {
-                let kind = alert_at(self.known.bytes, self.ahead(at));
-                self.begin_quote(kind);
-            }
-            Name::GfmFootnoteDefinition => self.begin_note(),
-            _ => {}
-        }
-    }
-
-    fn exit_container(&mut self, name: Name) {
-        match name {
-            Name::ListUnordered | Name::ListOrdered => self.lists.end(),
-            Name::BlockQuote => {
-                let is_alert = self.lists.end_quote();
-                self.push_tag((if is_alert { "</div>" } else { "</blockquote>" }, true));
-            }
-            Name::GfmFootnoteDefinition => self.end_note(),
-            _ => {}
-        }
-    }
-
     /// Ends the tag of an ordered list.
-    fn end_list_tag(&mut self, at: usize) {
-        let start = list_start(self.known.bytes, self.ahead(at));
+    fn end_list_tag(&mut self, ahead: &[Event]) {
+        let start = list_start(self.known.bytes, ahead);
         if start != 1 {
             self.out.push(" start=\"");
             self.out.push_number(start);
             self.out.push("\"");
         }
-        self.push_tag((">", true));
+        self.push_ended(">\n");
     }
 
     /// Begins a quote. One that is an alert is as on GitHub, with a title.
@@ -309,12 +451,12 @@ impl<'a, 'b> Page<'a, 'b> {
             Some(alert) => {
                 self.out.push("<div class=\"markdown-alert markdown-alert-");
                 self.out.push(alert.class);
-                self.push_tag(("\">", true));
+                self.push_ended("\">\n");
                 self.out.push("<p class=\"markdown-alert-title\">");
                 self.out.push(alert.title);
-                self.push_tag(("</p>", true));
+                self.push_ended("</p>\n");
             }
-            None => self.push_tag(("<blockquote>", true)),
+            None => self.push_ended("<blockquote>\n"),
         }
     }
 
@@ -339,27 +481,9 @@ impl<'a, 'b> Page<'a, 'b> {
         }
     }
 
-    fn enter_leaf(&mut self, name: Name, at: usize) {
-        match name {
-            Name::Paragraph if !self.lists.is_tight() => {
-                self.begin_line();
-                self.out.push("<p>");
-            }
-            Name::HeadingAtx => {
-                let tag = atx_heading(self.known.bytes, self.ahead(at));
-                self.begin_heading(tag);
-            }
-            Name::HeadingSetext => {
-                let tag = setext_heading(self.known.bytes, self.ahead(at));
-                self.begin_heading(tag);
-            }
-            _ => {}
-        }
-    }
-
     fn begin_heading(&mut self, tag: &'static str) {
         self.heading = tag;
-        self.out.push("<");
+        self.push_on_line("<");
         self.out.push(tag);
         self.push_heading_id();
         self.out.push(">");
@@ -378,45 +502,45 @@ impl<'a, 'b> Page<'a, 'b> {
         }
     }
 
-    fn exit_leaf(&mut self, name: Name) {
-        match name {
-            // After the first fence the tag of the block is still open.
-            Name::CodeFencedFence if self.shown == Shown::Nothing => self.out.push(">"),
-            // The ending of the last line is outside of the block.
-            Name::CodeIndented | Name::CodeFenced | Name::MathFlow | Name::HtmlFlow
-                if self.shown == Shown::Line => self.out.push(self.known.ending),
-            Name::HeadingAtx | Name::HeadingSetext => {
-                self.out.push("</");
-                self.out.push(self.heading);
-                self.push_tag((">", true));
-            }
-            Name::Paragraph if !self.lists.is_tight() => self.push_tag(("</p>", true)),
-            _ => {}
-        }
-    }
-
-    fn enter_table(&mut self, name: Name, at: usize) {
+    /// Begins a table or a part of one.
+    fn enter_table(&mut self, name: Name, ahead: &[Event]) {
         match name {
             Name::GfmTable => {
-                let read = read_columns(
-                    &mut self.table.columns,
-                    self.known.events.get(at..).unwrap_or(&[]),
-                );
+                self.begin_line();
+                self.push_ended("<table>\n");
+                let read = read_columns(&mut self.table.columns, ahead);
                 self.out.refuse(read.is_err());
             }
-            Name::GfmTableHead => self.table.is_head = true,
-            Name::GfmTableBody => self.table.is_head = false,
-            Name::GfmTableRow => self.table.column = 0,
+            Name::GfmTableHead => {
+                self.push_ended("<thead>\n");
+                self.table.is_head = true;
+            }
+            Name::GfmTableBody => {
+                self.push_ended("<tbody>\n");
+                self.table.is_head = false;
+            }
+            Name::GfmTableRow => {
+                self.push_ended("<tr>\n");
+                self.table.column = 0;
+            }
             Name::GfmTableCell => self.table.begin_cell(&mut self.out),
-            Name::GfmTableCellText if !self.table.is_shown() => self.shown = Shown::Nothing,
+            Name::GfmTableCellText if self.table.is_shown() => self.shown = Shown::Text,
             _ => {}
         }
     }
 
+    /// Ends a table or a part of one.
     fn exit_table(&mut self, name: Name) {
         match name {
+            Name::GfmTable => self.push_ended("</table>\n"),
+            Name::GfmTableHead => self.push_ended("</thead>\n"),
+            Name::GfmTableBody => self.push_ended("</tbody>\n"),
+            Name::GfmTableRow => {
+                self.table.fill_row(&mut self.out, self.known.ending);
+                self.push_ended("</tr>\n");
+            }
             Name::GfmTableCell => self.table.end_cell(&mut self.out, self.known.ending),
-            Name::GfmTableRow => self.table.fill_row(&mut self.out, self.known.ending),
+            Name::GfmTableCellText => self.shown = Shown::Nothing,
             _ => {}
         }
     }

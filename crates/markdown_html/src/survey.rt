@@ -142,21 +142,6 @@ impl Media {
     }
 }
 
-/// Whether events of this name are listed, or say what is. Few are.
-#[inline(always)]
-fn is_listed(name: Name) -> bool {
-    match name {
-        Name::Link | Name::Image | Name::GfmFootnoteCall => true,
-        Name::LabelText | Name::ReferenceString | Name::Resource => true,
-        Name::ResourceDestinationString | Name::ResourceTitleString => true,
-        Name::Definition | Name::GfmFootnoteDefinition => true,
-        Name::DefinitionDestinationString | Name::DefinitionTitleString => true,
-        Name::GfmTable | Name::GfmTableRow | Name::GfmTableCell => true,
-        Name::GfmTableDelimiterRow | Name::GfmTableDelimiterCell => true,
-        _ => false,
-    }
-}
-
 /// The cells of the table that is open.
 #[derive(Clone, Copy)]
 struct Cells {
@@ -197,8 +182,8 @@ impl Cells {
 
 /// What is known after some of the events.
 #[derive(Drop)]
-struct Walk {
-    found: Survey,
+pub(crate) struct SurveyWalk {
+    pub(crate) found: Survey,
     /// The links, images and calls that are open, the innermost last, each by how many begin before it.
     open: Vec<usize>,
     /// How many of them are images.
@@ -212,31 +197,26 @@ struct Walk {
     cells: Cells,
 }
 
-/// What the events list.
-pub(crate) fn survey_of(alloc: Global, events: &[Event]) -> Result<Survey, AllocError> {
-    let mut walk = Walk {
-        found: Survey {
-            media: Vec::new(alloc),
-            definitions: Vec::new(alloc),
-            calls: Vec::new(alloc),
-        },
-        open: Vec::new(alloc),
-        images: 0,
-        definition: Target::NONE,
-        notes: Vec::new(alloc),
-        begun: 0,
-        cells: Cells::NONE,
-    };
-    for (at, event) in events.iter().enumerate() {
-        if is_listed(event.name) {
-            walk.read(event, at)?;
+impl SurveyWalk {
+    /// A walk that has begun with no event.
+    pub(crate) fn new(alloc: Global) -> SurveyWalk {
+        SurveyWalk {
+            found: Survey {
+                media: Vec::new(alloc),
+                definitions: Vec::new(alloc),
+                calls: Vec::new(alloc),
+            },
+            open: Vec::new(alloc),
+            images: 0,
+            definition: Target::NONE,
+            notes: Vec::new(alloc),
+            begun: 0,
+            cells: Cells::NONE,
         }
     }
-    Ok(walk.found)
-}
 
-impl Walk {
-    fn read(&mut self, event: &Event, at: usize) -> Result<(), AllocError> {
+    /// Reads an event, which has this index.
+    pub(crate) fn read(&mut self, event: &Event, at: usize) -> Result<(), AllocError> {
         match event.kind {
             Kind::Enter => self.enter(event, at),
             Kind::Exit => self.exit(event, at),
@@ -294,7 +274,7 @@ impl Walk {
 
     /// Notes an event of what is open. No link, image or call is in a definition.
     fn note(&mut self, event: &Event, at: usize) {
-        let Walk {
+        let SurveyWalk {
             found,
             open,
             definition,

@@ -1,6 +1,7 @@
 // What is written around the parts of a text, and what becomes of the text in them, by their names.
 
 use md_engine::event::Name;
+use md_events::names::is_block;
 
 /// What becomes of texts and line endings.
 #[derive(Clone, Copy, PartialEq, Eq)]
@@ -42,13 +43,6 @@ pub(crate) fn sort_of(name: Name) -> Sort {
         Name::CodeFencedFence | Name::CodeFencedFenceInfo | Name::MathFlowFence => Sort::Block,
         Name::GfmTable | Name::GfmTableHead | Name::GfmTableBody => Sort::Block,
         Name::GfmTableRow | Name::GfmTableCell | Name::GfmTableCellText => Sort::Block,
-        _ => phrase_sort(name),
-    }
-}
-
-#[inline(always)]
-fn phrase_sort(name: Name) -> Sort {
-    match name {
         Name::Link | Name::Image | Name::GfmFootnoteCall => Sort::Phrase,
         Name::Resource | Name::Reference => Sort::Phrase,
         Name::Emphasis | Name::Strong | Name::GfmStrikethrough => Sort::Phrase,
@@ -65,90 +59,33 @@ fn phrase_sort(name: Name) -> Sort {
     }
 }
 
-/// Whether a part of this name has a text that is shown.
-fn is_text(name: Name) -> bool {
-    matches!(
-        name,
-        Name::Paragraph
-            | Name::HeadingAtxText
-            | Name::HeadingSetextText
-            | Name::GfmTableCellText
-            | Name::CodeFencedFenceInfo
-    )
+/// What is known by events of a name before the page is written.
+#[derive(Clone, Copy)]
+pub(crate) enum Noted {
+    /// Nothing, as by most events.
+    Nothing,
+    /// What a survey lists.
+    Survey,
+    /// Which lists are loose.
+    Lists,
+    /// Both.
+    Both,
 }
 
-/// What becomes of the text in a part of this name, if that changes where it begins.
-pub(crate) fn shown_in(name: Name) -> Option<Shown> {
+#[inline(always)]
+pub(crate) fn noted_of(name: Name) -> Noted {
     match name {
-        // Indented code and HTML begin with their first line.
-        Name::CodeIndented | Name::HtmlFlow => Some(Shown::Line),
-        _ if is_text(name) => Some(Shown::Text),
-        _ => None,
-    }
-}
-
-/// What becomes of the text after a part of this name, if that changes where it ends.
-pub(crate) fn shown_after(name: Name) -> Option<Shown> {
-    match name {
-        // The ending after the first fence begins the first line. The last fence is no line.
-        Name::CodeFencedFence | Name::MathFlowFence => Some(Shown::Lines),
-        Name::CodeFenced | Name::MathFlow => Some(Shown::Nothing),
-        Name::CodeIndented | Name::HtmlFlow => Some(Shown::Nothing),
-        _ if is_text(name) => Some(Shown::Nothing),
-        _ => None,
-    }
-}
-
-/// What is written where a part of this name begins, as far as that depends on the name alone, and whether the line ends
-/// after it.
-pub(crate) fn begin_tag(name: Name) -> (&'static str, bool) {
-    match name {
-        Name::ListUnordered => ("<ul>", true),
-        Name::ListOrdered => ("<ol", false),
-        Name::ListItem => ("<li>", false),
-        Name::ThematicBreak => ("<hr />", true),
-        Name::CodeIndented => ("<pre><code>", false),
-        Name::CodeFenced => ("<pre><code", false),
-        Name::CodeFencedFenceInfo => (" class=\"language-", false),
-        Name::MathFlow => ("<pre><code class=\"language-math math-display\">", false),
-        _ => table_tag(name),
-    }
-}
-
-fn table_tag(name: Name) -> (&'static str, bool) {
-    match name {
-        Name::GfmTable => ("<table>", true),
-        Name::GfmTableHead => ("<thead>", true),
-        Name::GfmTableBody => ("<tbody>", true),
-        Name::GfmTableRow => ("<tr>", true),
-        _ => ("", false),
-    }
-}
-
-/// The same where it ends.
-pub(crate) fn end_tag(name: Name) -> (&'static str, bool) {
-    match name {
-        Name::ListUnordered => ("</ul>", true),
-        Name::ListOrdered => ("</ol>", true),
-        Name::ListItem => ("</li>", true),
-        Name::CodeIndented | Name::CodeFenced | Name::MathFlow => ("</code></pre>", true),
-        Name::CodeFencedFenceInfo => ("\"", false),
-        Name::GfmTable => ("</table>", true),
-        Name::GfmTableHead => ("</thead>", true),
-        Name::GfmTableBody => ("</tbody>", true),
-        Name::GfmTableRow => ("</tr>", true),
-        _ => ("", false),
-    }
-}
-
-/// Whether a part of this name begins on a line of its own in the page.
-pub(crate) fn begins_line(name: Name) -> bool {
-    match name {
-        Name::BlockQuote | Name::ListOrdered | Name::ListUnordered | Name::ListItem => true,
-        Name::HeadingAtx | Name::HeadingSetext | Name::ThematicBreak => true,
-        Name::CodeIndented | Name::CodeFenced | Name::MathFlow | Name::HtmlFlow => true,
-        Name::GfmTable => true,
-        _ => false,
+        Name::Link | Name::Image | Name::GfmFootnoteCall => Noted::Survey,
+        Name::LabelText | Name::ReferenceString | Name::Resource => Noted::Survey,
+        Name::ResourceDestinationString | Name::ResourceTitleString => Noted::Survey,
+        Name::DefinitionDestinationString | Name::DefinitionTitleString => Noted::Survey,
+        Name::GfmTableRow | Name::GfmTableCell => Noted::Survey,
+        Name::GfmTableDelimiterRow | Name::GfmTableDelimiterCell => Noted::Survey,
+        Name::Definition | Name::GfmFootnoteDefinition | Name::GfmTable => Noted::Both,
+        Name::BlankLineEnding | Name::BlockQuotePrefix => Noted::Lists,
+        Name::ListItemPrefix | Name::GfmFootnoteDefinitionPrefix => Noted::Lists,
+        _ if is_block(name) => Noted::Lists,
+        _ => Noted::Nothing,
     }
 }
 

@@ -1,4 +1,4 @@
-// Where HTML is written. It is kept as bytes, which are looked at once at the end: pieces of a text need not be.
+// Where HTML is written. It is kept as bytes, so that pieces of a text need not be looked at.
 //
 // A request for memory that is refused is kept in mind, and nothing is written after it. So whoever writes need not ask
 // after each piece, but once at the end.
@@ -26,16 +26,9 @@ impl Writer {
         }
     }
 
-    /// What is written, and whether a request for memory was refused before all of it was. Of what a parse returns it is
-    /// text; of other events it may not be UTF-8, and then it is empty.
-    pub(crate) fn finish(self) -> (String, bool) {
-        let Writer {
-            alloc,
-            bytes,
-            is_refused,
-        } = self;
-        let text = String::from_utf8(bytes).unwrap_or(String::new(alloc));
-        (text, is_refused)
+    /// What is written, and whether a request for memory was refused before all of it was.
+    pub(crate) fn finish(self) -> (Vec<u8>, bool) {
+        (self.bytes, self.is_refused)
     }
 
     pub(crate) fn as_str(&self) -> &str {

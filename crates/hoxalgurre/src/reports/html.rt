@@ -10,7 +10,7 @@ use markdown_blocks::event::Event;
 use markdown_blocks::message::Message;
 use markdown_blocks::parser::ParseState;
 use markdown_html::texts::push_escaped;
-use markdown_html::{HtmlOptions, html, html_with_ids};
+use markdown_html::{HtmlOptions, html_bytes};
 use std::alloc::{AllocError, Global};
 use std::collections::BTreeSet;
 
@@ -41,19 +41,19 @@ pub(crate) fn html_of(
     file: &str,
     text: &str,
     options: &ParseOptions,
-) -> Result<String, Message>
+) -> Result<Vec<u8>, Message>
     requires size { IsSmall text.now }
     requires built { IsWithoutMdx options.now }
 {
     let (events, state) = parse_inlines(alloc, text, options)?;
     if !asked.has_anchors && !asked.is_page {
-        return html(alloc, &events, &state, written(asked));
+        return html_bytes(alloc, &events, &state, written(asked), &[]);
     }
     let nodes = nodes_of(alloc, &events, &state)?;
     let anchors = anchors(alloc, &nodes)?;
     let body = body_of(alloc, asked, &events, &state, &anchors)?;
     if asked.is_page {
-        page(alloc, title_of(&anchors, file), body.as_str())
+        page(alloc, title_of(&anchors, file), &body)
     } else {
         Ok(body)
     }
@@ -74,13 +74,13 @@ fn body_of(
     events: &[Event],
     state: &ParseState<'_>,
     anchors: &[Anchor],
-) -> Result<String, Message> {
+) -> Result<Vec<u8>, Message> {
     let ids = if asked.has_anchors {
         ids_of(alloc, anchors)?
     } else {
         Vec::new(alloc)
     };
-    html_with_ids(alloc, events, state, written(asked), &ids)
+    html_bytes(alloc, events, state, written(asked), &ids)
 }
 
 /// The anchor of each heading, or none if a heading before has the same one, or a footnote may have it.
@@ -108,11 +108,12 @@ fn title_of<'a>(anchors: &'a [Anchor], file: &'a str) -> &'a str {
     }
 }
 
-fn page(alloc: Global, title: &str, body: &str) -> Result<String, Message> {
-    let mut page = String::from_str(alloc, BEGIN)?;
+fn page(alloc: Global, title: &str, body: &[u8]) -> Result<Vec<u8>, Message> {
+    let mut page = Vec::new(alloc);
+    page.extend_from_slice(BEGIN.as_bytes())?;
     push_escaped(&mut page, title.as_bytes())?;
-    page.push_str("</title>\n</head>\n<body>\n")?;
-    page.push_str(body)?;
-    page.push_str("</body>\n</html>\n")?;
+    page.extend_from_slice(b"</title>\n</head>\n<body>\n")?;
+    page.extend_from_slice(body)?;
+    page.extend_from_slice(b"</body>\n</html>\n")?;
     Ok(page)
 }

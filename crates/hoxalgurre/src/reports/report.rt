@@ -27,6 +27,7 @@ use markdown_blocks::parser::parse;
 use printing::print::print;
 use serde::Serialize;
 use std::alloc::Global;
+use std::str;
 
 /// What is reported.
 #[derive(Clone, Copy, Debug, PartialEq, Eq)]
@@ -75,7 +76,8 @@ pub enum Format {
 /// A report of a text.
 #[derive(Drop)]
 pub struct Report {
-    pub text: String,
+    /// What is printed, as UTF-8.
+    pub text: Vec<u8>,
     /// How many things are wrong: 0 but where labels or links are looked at.
     pub findings: usize,
 }
@@ -103,7 +105,7 @@ struct EventsReport<'a> {
 struct HtmlReport<'a> {
     version: u32,
     file: &'a str,
-    html: String,
+    html: &'a str,
 }
 
 #[derive(Drop, Serialize)]
@@ -160,8 +162,12 @@ pub fn report_on(
     match wish.task {
         Task::Labels => report_labels(alloc, wish, file, text, options),
         Task::Links => report_links(alloc, format, file, text, options),
+        Task::Html => {
+            let text = report_html(alloc, wish, file, text, options)?;
+            Ok(Report { text, findings: 0 })
+        }
         _ => {
-            let text = report_text(alloc, wish, file, text, options)?;
+            let text = report_text(alloc, wish, file, text, options)?.into_bytes();
             Ok(Report { text, findings: 0 })
         }
     }
@@ -182,7 +188,6 @@ fn report_text(
     match wish.task {
         Task::Outline => report_outline(alloc, wish, file, text, options),
         Task::Events => report_events(alloc, wish, file, text, options),
-        Task::Html => report_html(alloc, wish, file, text, options),
         Task::Tree => report_tree(alloc, format, file, text, options),
         _ if wish.has_toc => report_toc(alloc, format, file, text, options),
         _ => report_headings(alloc, format, file, text, options),
@@ -398,21 +403,24 @@ fn report_html(
     file: &str,
     text: &str,
     options: &ParseOptions,
-) -> Result<String, Message>
+) -> Result<Vec<u8>, Message>
     requires size { IsSmall text.now }
     requires built { IsWithoutMdx options.now }
 {
-    let html = html_of(alloc, wish.html, file, text, options)?;
-    match wish.format {
-        Format::Text => Ok(html),
-        Format::Json => json(
-            alloc,
-            &HtmlReport {
-                version: VERSION,
-                file,
-                html,
-            },
-        ),
+    let bytes = html_of(alloc, wish.html, file, text, options)?;
+    match (wish.format, str::from_utf8(&bytes)) {
+        (Format::Json, Ok(html)) => {
+            let report = json(
+                alloc,
+                &HtmlReport {
+                    version: VERSION,
+                    file,
+                    html,
+                },
+            )?;
+            Ok(report.into_bytes())
+        }
+        _ => Ok(bytes),
     }
 }
 
@@ -523,7 +531,10 @@ fn report_links(
     let links = links(alloc, &nodes, &anchors)?;
     let findings = count_broken(&links);
     let text = links_text(alloc, format, file, text, links)?;
-    Ok(Report { text, findings })
+    Ok(Report {
+        text: text.into_bytes(),
+        findings,
+    })
 }
 
 fn links_text(
@@ -567,7 +578,7 @@ fn report_labels(
     let count = found.len();
     let text = labels_text(alloc, wish.format, file, text, found)?;
     Ok(Report {
-        text,
+        text: text.into_bytes(),
         findings: count,
     })
 }
