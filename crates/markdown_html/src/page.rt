@@ -1,8 +1,8 @@
 // The HTML of a list of events, in one walk from the first to the last.
 //
 // The list nests: a part has an enter and an exit, and what is between them is in the part. So tags are written where
-// parts begin and end, and only little has to be known of what is open. Texts are written at the exit of their piece: a
-// piece is entered right before, so its bytes lie between the last enter and this exit.
+// parts begin and end, and only little has to be known of what is open. The exit of a piece is right after its enter, and
+// its bytes lie between them: so it is written where it is entered.
 //
 // A footnote definition is written apart, and where the page ends those that are shown become its last section.
 

@@ -1,4 +1,4 @@
-// What is written around the parts of a text, and what becomes of the text in them, by their names.
+// What the events of a name are for, on the page and before it is written, and what is written around phrases.
 
 use md_engine::event::Name;
 use md_events::names::is_block;
