@@ -37,6 +37,7 @@ pub mod TextQuoted
 pub mod ReadsWith
 pub mod DocumentReads
 pub mod Labels
+pub mod PartBegins
 pub mod TextsRead
 pub mod TextRule
 pub mod PartLabels
@@ -51,6 +52,7 @@ pub mod PartEvents
 pub mod PartNext
 pub mod PartWhole
 pub mod PartFront
+pub mod AllBlocks
 pub mod PlaceOnce
 mod PlacedParts
 mod PartWalk

@@ -53,7 +53,7 @@ use Rattle.markdown_blocks.specs.FrontRead.{exact_front}
 use Rattle.markdown_blocks.specs.Parsed.{IsParsed, IsSmall}
 use Rattle.markdown_blocks.specs.PartRead.{AreAhead, AreLaid, HasPart, MayRead, events_after, events_at, events_left}
 use Rattle.markdown_blocks.specs.PartRead.{labels_after, labels_at, labels_left, labels_of, place_left, point_after}
-use Rattle.markdown_blocks.specs.PartRead.{point_in}
+use Rattle.markdown_blocks.specs.PartRead.{point_in, unread_after, unread_at}
 use Rattle.markdown_blocks.proofs.ContentGroups.{part-of}
 use Rattle.markdown_blocks.proofs.PartLaid.{covers-from, covers-to}
 use Rattle.markdown_blocks.proofs.PartLined.{lined-one}
@@ -273,6 +273,21 @@ module _ (options : ParseOptions) (text : List ℕ) (p : Point) (front : List Ev
   past : nat_lt p.index (length text) ≡ false → length text ≤ p.index
   past e = grind (arith, nat_tests)
 
+  -- all its events are left, before their text parts are read,
+  pub blocks-left : exact options text ≡ front ++ unread_after options text (point_in text p)
+  blocks-left =
+      exact-parts options text
+      ∙ ap
+      (λ (q : Point). exact_front options text ++ unread_at options text q) (sym read.starts)
+      ∙ ap (λ (es : List Event). es ++ unread_at options text p) (sym read.are)
+      ∙ go (nat_lt p.index (length text)) refl
+    where
+      go : (x : Bool) → nat_lt p.index (length text) ≡ x →
+          front ++ unread_at options text p ≡ front ++ unread_after options text (cond x (Some p) None)
+      go true e = refl
+      go false e = ap (λ (es : List Event). front ++ es) (end-events options text p (past e))
+
+  -- and read as lines
   pub events-left : front ++ events_after options text (point_in text p) ≡ lined wants_text text (exact options text)
   events-left = go (nat_lt p.index (length text)) refl
     where

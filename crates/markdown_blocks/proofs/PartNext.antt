@@ -13,13 +13,10 @@ use Rattle.md_engine.specs.declared.event.Event.{Event}
 use Rattle.md_engine.specs.declared.event.Point.{Point}
 use Rattle.md_engine.specs.Place.{IsPlaced, is_pair}
 use Rattle.md_events.specs.Events.Places.{columns_before, same_place, splits_pair, within_tab}
-use Rattle.md_events.specs.Events.Tiles.{IsBlockList, end_point}
-use Rattle.md_events.specs.Lined.{lined}
-use Rattle.md_events.specs.TextPart.{wants_text}
+use Rattle.md_events.specs.Events.Tiles.{end_point}
 use Rattle.md_events.proofs.InlineLemmas.{same-refl}
 use Rattle.md_events.proofs.PlacesLemmas.{Placed, at-next, drop-next, placed-facts}
 use Rattle.md_events.proofs.ReachedLemmas.{point-placed}
-use Rattle.md_events.proofs.TextParts.{placed-events}
 use Rattle.md_events.specs.Exact.Places.{TextLine, line_at, lines_from}
 use Rattle.md_meaning.specs.Label.{both, labels}
 use Rattle.md_meaning.specs.Lines.{ends_line, full_lines_of, is_ending, lines_of}
@@ -34,11 +31,11 @@ use Rattle.proof_exact.specs.Parts.{BeginsEmpty, EndsLine, IsCut, IsTextCut, eve
 use Rattle.proof_exact.specs.Parts.{placed_lines}
 use Rattle.proof_exact.proofs.TextCut.{reads-on-text}
 use Rattle.proof_exact.proofs.TextParts.{ends-alone, reads-on, text-lines}
-use Rattle.markdown_blocks.specs.PartRead.{BeginsPart, events_at, is_filled_end, is_line_begin, labels_at}
+use Rattle.markdown_blocks.specs.PartRead.{BeginsPart, is_filled_end, is_line_begin, labels_at, unread_at}
+use Rattle.markdown_blocks.proofs.PartBegins.{part-placed}
 use Rattle.markdown_blocks.proofs.PartFilled.{EndFilled}
 use Rattle.markdown_blocks.proofs.PartLabels.{labels-after, labels-cut}
-use Rattle.markdown_blocks.proofs.PartLined.{chunks-last, lined-append, lined-within, placed-before}
-use Rattle.markdown_blocks.proofs.PartLined.{placed-within}
+use Rattle.markdown_blocks.proofs.PartLined.{placed-before, placed-within}
 
 -- Where a part may end.
 
@@ -344,9 +341,10 @@ end-only text p number is past placed =
 -- What a text has from a point on is what it has up to this place, where it is read as one that ends there, and then what
 -- it has from the next point on, which is there.
 pub record LeadsTo (options : ParseOptions) (text : List ℕ) (to : ℕ) (p next : Point) : Type 0 where
-  pub events : events_at options text p ≡ events_at options (take to text) p ++ events_at options text next
+  pub events : unread_at options text p ≡ unread_at options (take to text) p ++ unread_at options text next
   pub labels : labels_at options text p ≡ both (labels_at options (take to text) p) (labels_at options text next)
   pub begins : BeginsPart text next
+  pub index : next.index ≡ to
   pub place : same_place (end_point (take to text)) next ≡ true
 
 -- A text may be cut after these lines: before an empty line that ends a paragraph, or where nothing is open.
@@ -359,15 +357,9 @@ pub leads-to : (options : ParseOptions) (text : List ℕ) (to : ℕ) (p next : P
     length (take to text) ≤ next.index →
     IsCutAt options text to
     (placed_lines p.line p.index (p.column - 1) (full_lines_of (drop p.index (take to text)))) →
-    IsBlockList (take to text) (events_from options (take to text) p.line p.index (p.column - 1)) →
     LeadsTo options text to p next
-leads-to options text to p next small begins before inside end at-end past cut blocks = record {
-  events =
-      ap (lined wants_text text) all
-      ∙ lined-append wants_text text list rest (chunks-last 0 list blocks.chunks)
-      ∙ ap₂ (λ (xs ys : List Event). xs ++ ys)
-      (sym (lined-within wants_text text to list (placed-events slice sized list blocks.placed)))
-      (ap (events_at options text) (sym same));
+leads-to options text to p next small begins before inside end at-end past cut = record {
+  events = all ∙ ap (λ (q : Point). list ++ unread_at options text q) (sym same);
   labels =
       ap
       (λ (l : List ℕ). labels (closed options (steps options nothing_open (rests_at (p.column - 1) (lines_of l)))))
@@ -380,6 +372,7 @@ leads-to options text to p next small begins before inside end at-end past cut b
     whole = ap (λ (q : Point). q.vs) same;
     column = let c = ap (λ (q : Point). q.column) same in omega (arith, c);
   };
+  index = ap (λ (q : Point). q.index) same;
   place =
       ap (λ (q : Point). same_place (end_point slice) q) same
       ∙ ap (λ (i : ℕ). (i == to) && (0 == 0)) long
@@ -395,9 +388,6 @@ leads-to options text to p next small begins before inside end at-end past cut b
     long : length slice ≡ to
     long = length-take-le to text (omega (arith, inside))
 
-    sized : length slice < 2 ^ 61
-    sized = omega (arith, long, small, inside)
-
     size : p.index + length bytes ≡ to
     size = part-size text to p.index (omega (arith, before)) (omega (arith, inside))
 
@@ -409,12 +399,6 @@ leads-to options text to p next small begins before inside end at-end past cut b
 
     rest : List Event
     rest = events_from options text (p.line + length (full_lines_of bytes)) to 0
-
-    begun : p ≡ begin p.line p.index (p.column - 1)
-    begun =
-        let c : p.column ≡ p.column - 1 + 1 = let one = begins.column in omega (arith, one) in
-        ap₂ (λ (c v : ℕ). let q : Point = record { line = p.line; column = c; index = p.index; vs = v } in q) c
-        begins.whole
 
     lines : List TextLine
     lines = placed_lines p.line p.index (p.column - 1) (full_lines_of bytes)
@@ -456,7 +440,5 @@ leads-to options text to p next small begins before inside end at-end past cut b
         end-only slice next (p.line + length (full_lines_of bytes)) at-end past
         (subst (λ (i : ℕ). Placed slice (begin (p.line + length (full_lines_of bytes)) i 0)) (size ∙ sym long)
         (after-lines slice p.line p.index (p.column - 1) (ends-alone bytes (drop to text) ends)
-        (subst (Placed slice) begun
-        (placed-facts slice p
-        (point-placed slice p (part-begins text to p inside end before begins).placed)))))
+        (part-placed slice p (part-begins text to p inside end before begins))))
         ∙ ap (λ (i : ℕ). begin (p.line + length (full_lines_of bytes)) i 0) long

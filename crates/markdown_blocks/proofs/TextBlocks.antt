@@ -1,8 +1,8 @@
 -- What is in a text before its text parts are read, where the constructs of MDX are off: its block list, which tiles it
 -- and spells its tree, and its labels. No inline layer changes that.
 use Rattle.md_engine.specs.declared.tokenizer.held_leaf.HeldLeaf.TheVariants as held_leaf
-use Rattle.std.proofs.Common.{◌≡◌, ◌^◌, ◌<◌, ℕ, Bool, true, List, [], ◌++◌, drop, length, refl, ap}
-use Rattle.std.proofs.Common.{sym, ◌∙◌, subst, cond, false}
+use Rattle.std.proofs.Common.{◌≡◌, ◌^◌, ◌<◌, ℕ, true, List, [], ◌++◌, drop, length, refl, ap}
+use Rattle.std.proofs.Common.{sym, ◌∙◌, subst}
 use Rattle.std.specs.Prelude.{IsTrue}
 use Rattle.std.specs.Str.{IsUtf8}
 use Rattle.md_engine.specs.declared.configuration.ParseOptions.{ParseOptions}
@@ -34,13 +34,11 @@ use Rattle.md_events.specs.Events.Tiles.{IsBlockList, end_point, parts, plain_li
 use Rattle.md_outline.specs.HeadingDepths.{are_shallow}
 use Rattle.md_outline.specs.Outlined.{IsOutlined}
 use Rattle.md_events.proofs.FilledLemmas.{spelled-filled}
-use Rattle.md_events.proofs.OnLemmas.{tree-on}
 use Rattle.md_events.specs.Exact.Blocks.{exact}
 use Rattle.proof_exact.proofs.ExactIs.{exact-is}
 use Rattle.proof_rows.specs.BlockList.{block_list, tabled_groups}
 use Rattle.proof_leaf_laws.specs.Front.{body_point, front_events}
 use Rattle.markdown_blocks.specs.FlowReads.{FlowReads}
-use Rattle.proof_container_laws.specs.Footnotes.{footnotes_listed}
 use Rattle.proof_rows.specs.TextRows.{text_rows}
 use Rattle.proof_rows.specs.WithoutMdx.{IsWithoutMdx}
 use Rattle.proof_frame.specs.Row.{Row}
@@ -55,8 +53,7 @@ use Rattle.proof_rows.proofs.GroupsAre.{groups-are}
 use Rattle.markdown_blocks.proofs.Labels.Rows.{rows-labels}
 use Rattle.proof_content_laws.proofs.Labels.Footnotes.{are_valid-labels}
 use Rattle.proof_content_laws.proofs.Labels.Kept.{listed-labels, read-labels}
-use Rattle.proof_content_laws.proofs.Labels.Off.{off-in}
-use Rattle.proof_content_laws.proofs.Labels.Trees.{defined_in, grouped-defined, grouped-noted, noted_in}
+use Rattle.proof_content_laws.proofs.Labels.Trees.{defined_in, noted_in}
 use Rattle.proof_rows.proofs.PartedRows.{rows-parted}
 use Rattle.md_order.proofs.ListsFirst.{lists-first}
 use Rattle.md_leaves.specs.HeadingText.{headings_resolved}
@@ -64,8 +61,8 @@ use Rattle.md_tables.specs.Tabled.{tabled}
 use Rattle.markdown_blocks.proofs.SpelledRows.{rows-outer}
 use Rattle.proof_rows.proofs.JoinedLemmas.{EachNoContent}
 use Rattle.proof_container_laws.proofs.ListedOutlined.{listed-outlined}
-use Rattle.proof_rows.proofs.Begun.{begun, front-nested, front-spelled, front-unlisted, fronts-defined}
-use Rattle.proof_rows.proofs.Begun.{fronts-grouped, fronts-noted, fronts-shallow}
+use Rattle.proof_rows.proofs.Begun.{begun, front-nested, front-spelled, front-unlisted}
+use Rattle.proof_rows.proofs.Begun.{fronts-grouped, fronts-shallow}
 use Rattle.proof_frame.proofs.FillFacts.{fill-same}
 use Rattle.proof_frame.proofs.PartsValid.{valid-outside}
 use Rattle.proof_rows.proofs.NestedRows.{Nests, rows-nest}
@@ -74,15 +71,13 @@ use Rattle.proof_rows.proofs.PlainEvents.{groups-unlisted}
 use Rattle.proof_rows.proofs.RowFacts.{AreRows}
 use Rattle.proof_rows.proofs.AloneGroups.{leaves-alone}
 use Rattle.proof_rows.proofs.TabledGroups.{chain}
-use Rattle.proof_rows.proofs.TextAre.{MayBegin, body-begins, from-are, lines_of, rows_of, text-are}
+use Rattle.proof_rows.proofs.TextAre.{MayBegin, from-are, lines_of, rows_of, text-are}
 use Rattle.markdown_blocks.proofs.ContentGroups.{content-are, part-of}
 use Rattle.markdown_blocks.proofs.FlowReads.{text-quiet}
 use Rattle.proof_rows.proofs.TileCovers.{blocks-cover}
 use Rattle.proof_rows.proofs.TileParts.{blocks-chunks, blocks-nested, blocks-are_valid}
 use Rattle.proof_rows.proofs.TileReads.{blocks-empty, end-unread, text-filled}
-use Rattle.proof_container_laws.proofs.ListedFront.{listed-front}
 use Rattle.markdown_blocks.proofs.TreeRows.{body-rows, body-shallow, body_of, tree-body}
-use Rattle.proof_frame.proofs.LeafAllowed.{roles-unlisted}
 
 -- Then the lines of each leaf of several were joined, lists were put around items, and headings and tables were set.
 pub resolved-are : (options : ParseOptions) (bytes : List ℕ) (p : Point) → IsWithoutMdx options →
@@ -101,7 +96,7 @@ resolved-are options bytes p built small begins found new flow =
     (leaves-alone options bytes [] held_leaf.None p lines rows (refl, refl) are quiet)
     ∙ ap (listed bytes) (chain options bytes [] held_leaf.None p lines rows (refl, refl) are quiet)
 
--- The labels that content found are those of what the lines become,
+-- The labels that content found are those of what the lines become.
 pub labels-from : (options : ParseOptions) (bytes : List ℕ) (p : Point) → IsWithoutMdx options →
     length bytes < 2 ^ 61 → MayBegin bytes p → (found : Found) (new : World) → FlowReads bytes options p found new →
     found.definitions ≡ defined_in (body_of options bytes p)
@@ -116,19 +111,7 @@ labels-from options bytes p built small begins found new flow =
     (rows-outer options bytes p lines rows built are)
     ∙ ap defined_in (body-rows options built bytes p rows are)
 
--- which are those of the tree.
-labels-are : (options : ParseOptions) (bytes : List ℕ) → IsWithoutMdx options → length bytes < 2 ^ 61 →
-    (found : Found) (new : World) → FlowReads bytes options (body_point options bytes) found new →
-    found.definitions ≡ (labels (tree options bytes)).definitions
-labels-are options bytes built small found new flow =
-    let p : Point = body_point options bytes in
-    let begins = begun options bytes in
-    labels-from options bytes p built small (body-begins options bytes) found new flow
-    ∙ sym (grouped-defined (body_of options bytes p))
-    ∙ sym (fronts-defined begins.block (grouped (body_of options bytes p)) begins.kind)
-    ∙ ap defined_in (sym (tree-body options bytes p (front_events options bytes) begins))
-
--- The labels of footnote definitions among the events are those of what the lines become,
+-- The labels of footnote definitions among the events are, too.
 pub footnotes-from : (options : ParseOptions) (bytes : List ℕ) (p : Point) → IsWithoutMdx options →
     length bytes < 2 ^ 61 → MayBegin bytes p → (found : Found) (new : World) → FlowReads bytes options p found new →
     footnote_labels_in bytes new.events ≡ noted_in (body_of options bytes p)
@@ -150,29 +133,6 @@ footnotes-from options bytes p built small begins found new flow =
     ∙ are_valid-labels bytes body (rows-are_valid options bytes p lines rows are) nests.balanced.matches
     (rows-parted options bytes p lines rows are) (rows-outer options bytes p lines rows built are)
     ∙ ap noted_in (body-rows options built bytes p rows are)
-
--- which are those of the tree too,
-footnotes-are : (options : ParseOptions) (bytes : List ℕ) → IsWithoutMdx options → length bytes < 2 ^ 61 →
-    (found : Found) (new : World) → FlowReads bytes options (body_point options bytes) found new →
-    footnote_labels_in bytes new.events ≡ (labels (tree options bytes)).footnotes
-footnotes-are options bytes built small found new flow =
-    let p : Point = body_point options bytes in
-    let begins = begun options bytes in
-    footnotes-from options bytes p built small (body-begins options bytes) found new flow
-    ∙ sym (grouped-noted (body_of options bytes p))
-    ∙ sym (fronts-noted begins.block (grouped (body_of options bytes p)) begins.kind)
-    ∙ ap noted_in (sym (tree-body options bytes p (front_events options bytes) begins))
-
--- and where footnote definitions are off there are none
-listed-are : (options : ParseOptions) (bytes : List ℕ) → IsWithoutMdx options → length bytes < 2 ^ 61 →
-    (found : Found) (new : World) → FlowReads bytes options (body_point options bytes) found new →
-    footnotes_listed options bytes new.events ≡ (labels (tree options bytes)).footnotes
-listed-are options bytes built small found new flow = go options.constructs.gfm_footnote_definition refl
-  where
-    go : (x : Bool) → options.constructs.gfm_footnote_definition ≡ x →
-        cond x (footnote_labels_in bytes new.events) [] ≡ (labels (tree options bytes)).footnotes
-    go true e = footnotes-are options bytes built small found new flow
-    go false e = sym (off-in options (tree options bytes) e (tree-on options bytes))
 
 -- What is in a text before lists are put around its items: its blocks, and what the plain layer reads of them.
 abbrev pub blocks_of : ParseOptions → List ℕ → List Event
@@ -241,28 +201,6 @@ pub read-is : (options : ParseOptions) (bytes : List ℕ) → IsWithoutMdx optio
 read-is options bytes built small =
     read-listed options bytes built small ∙ ap (plain_read bytes) (blocks-exact options bytes built small)
 
--- The front of a text is before what flow gives, which is all of the exact list.
-pub front-listed : (options : ParseOptions) (bytes : List ℕ) → IsWithoutMdx options → length bytes < 2 ^ 61 →
-    front_events options bytes ++ listed bytes (tabled_groups options bytes (groups (rows_of options bytes))) ≡
-    exact options bytes
-front-listed options bytes built small =
-    sym
-    (listed-front bytes (front_events options bytes) (tabled_groups options bytes (groups (rows_of options bytes)))
-    (roles-unlisted (front_events options bytes) (part-of options bytes).stretch.roles))
-    ∙ blocks-exact options bytes built small
-
-pub blocks-read : (options : ParseOptions) (bytes : List ℕ) (start : Point) (found : Found) (new : World)
-    (mark items : List Event) → IsWithoutMdx options → length bytes < 2 ^ 61 → start ≡ body_point options bytes →
-    mark ≡ front_events options bytes → FlowReads bytes options start found new → items ≡ new.events →
-    mark ++ items ≡ exact options bytes
-blocks-read options bytes start found new mark items built small starts marks flow are =
-    let from : FlowReads bytes options (body_point options bytes) found new = subst
-    (λ (p : Point). FlowReads bytes options p found new) starts flow in
-    ap (λ (l : List Event). mark ++ l) (are
-    ∙ resolved-are options bytes (body_point options bytes) built small (body-begins options bytes) found new from)
-    ∙ ap (λ (l : List Event). l ++ listed bytes (tabled_groups options bytes (groups (rows_of options bytes)))) marks
-    ∙ front-listed options bytes built small
-
 -- What is known of the exact list of a text, which has these places, and of what the plain layer reads of it.
 pub record HasBlocks (options : ParseOptions) (bytes : List ℕ) : Type 0 where
   pub list : IsBlockList bytes (exact options bytes)
@@ -322,21 +260,3 @@ has-blocks options bytes built small placed =
           ∙ fronts-shallow begins.block (body_of options bytes p) begins.kind (body-shallow options bytes p built)));
       empty = λ none. sym same ∙ ap (listed bytes) (blocks-empty options bytes none);
     }
-
--- The labels of a text, in the words of the calls that `parse_with` makes.
-
-pub parsed-labels : (options : ParseOptions) (bytes : List ℕ) (start : Point) (found : Found) (new : World) →
-    IsWithoutMdx options → length bytes < 2 ^ 61 → start ≡ body_point options bytes →
-    FlowReads bytes options start found new → found.definitions ≡ (labels (tree options bytes)).definitions
-parsed-labels options bytes start found new built small starts flow =
-    labels-are options bytes built small found new
-    (subst (λ (p : Point). FlowReads bytes options p found new) starts flow)
-
-pub parsed-footnotes : (options : ParseOptions) (bytes : List ℕ) (start : Point) (found : Found) (new : World)
-    (items : List Event) → IsWithoutMdx options → length bytes < 2 ^ 61 → start ≡ body_point options bytes →
-    FlowReads bytes options start found new → items ≡ new.events →
-    footnotes_listed options bytes items ≡ (labels (tree options bytes)).footnotes
-parsed-footnotes options bytes start found new items built small starts flow are =
-    ap (footnotes_listed options bytes) are
-    ∙ listed-are options bytes built small found new
-    (subst (λ (p : Point). FlowReads bytes options p found new) starts flow)

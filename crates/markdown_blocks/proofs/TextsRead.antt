@@ -1,36 +1,34 @@
 -- What reading content makes of the lines of a text, in words of the exact list.
 use Rattle.md_engine.specs.declared.tokenizer.held_leaf.HeldLeaf.TheVariants as held_leaf
 use Rattle.md_engine.specs.declared.tokenizer.held_leaf.OpenText.{OpenText}
-use Rattle.std.proofs.Common.{◌≡◌, ◌≢◌, ◌⊎◌, inl, inr, ℕ, suc, ◌-◌, ◌^◌, ◌<◌, Bool, true, false, List, [], ◌∷◌, ◌++◌}
-use Rattle.std.proofs.Common.{length, drop, refl, sym, ap, ap₂, ◌∙◌, subst, subst₂, append-nil, append_assoc, arith}
+use Rattle.std.proofs.Common.{◌≡◌, ◌≢◌, inl, inr, ℕ, ◌-◌, ◌^◌, ◌<◌, Bool, true, false, List, [], ◌∷◌, ◌++◌}
+use Rattle.std.proofs.Common.{length, drop, refl, sym, ap, ap₂, ◌∙◌, subst, append-nil, append_assoc}
 use Rattle.std.specs.Prelude.{flat_map}
 use Rattle.std.proofs.lemmas.Bool.{or_from}
-use Rattle.std.proofs.lemmas.List.{length-drop}
 use Rattle.std.proofs.lemmas.List.Folds.{list_any-append}
 use Rattle.md_engine.specs.declared.configuration.ParseOptions.{ParseOptions}
 use Rattle.md_engine.specs.declared.event.Event.{Event}
 use Rattle.md_engine.specs.declared.event.Name.TheVariants as n
 use Rattle.md_engine.specs.declared.event.Point.{Point}
 use Rattle.md_engine.specs.Found.{Found}
-use Rattle.md_engine.specs.Meaning.{Cell}
 use Rattle.md_engine.specs.World.{World}
 use Rattle.md_content.specs.Chunks.{content_link}
 use Rattle.md_content.specs.ContentReads.{content_readings, wants_content}
 use Rattle.md_content.specs.Joined.{is_content, joined}
-use Rattle.md_events.proofs.FeedLines.{feed-none}
 use Rattle.md_events.specs.Events.Nested.{enter_link, exit}
 use Rattle.md_events.specs.Substituted.{Substituted}
 use Rattle.md_events.specs.Exact.Blocks.{grouped}
 use Rattle.md_events.specs.Exact.Leaves.{leaf as leaf_lines, runs_line}
-use Rattle.md_events.specs.Exact.Places.{TextLine, lines_from}
+use Rattle.md_events.specs.Exact.Places.{lines_from}
 use Rattle.md_events.specs.Exact.Rows.{Delimiter, Row, Underline}
 use Rattle.md_events.specs.Exact.Rows.{rows_of as exact_rows}
 use Rattle.md_link_definitions.specs.OpenText.{open_text}
 use Rattle.md_link_definitions.specs.Progress.{progress_of, step}
+use Rattle.md_meaning.specs.Lines.{full_lines_of}
 use Rattle.md_meaning.specs.Rest.{trim_start}
 use Rattle.md_meaning.specs.State.{kept}
 use Rattle.md_meaning.specs.Texts.{split_lines}
-use Rattle.md_registry.specs.Registry.{asked_first, bars_containers, leaf}
+use Rattle.md_registry.specs.Registry.{leaf}
 use Rattle.md_registry.proofs.UnderNames.{further-text, heads-table}
 use Rattle.proof_exact.proofs.BlocksSame.{following-put}
 use Rattle.proof_exact.proofs.Fit.{Fit}
@@ -38,11 +36,8 @@ use Rattle.proof_exact.proofs.FitLines.{first-same, leaf-added, leaf-starts, rea
 use Rattle.proof_exact.proofs.Following.{inner-outer}
 use Rattle.proof_exact.proofs.GroupsMatch.{GroupsMatch, Pairs, TakesEach, TakesLines, following_leaf, within_leaf}
 use Rattle.proof_exact.proofs.LeafGroups.{Taken, lines-taken}
-use Rattle.proof_exact.proofs.NoLines.{body-none}
 use Rattle.proof_exact.proofs.Put.{AllGo, AllPut, ArePut, IsPut, rows-put}
-use Rattle.proof_exact.proofs.ExactIs.{body_lines}
 use Rattle.proof_exact.proofs.LinesExact.{BeginsLine, are-rows, lines-match, nothing as no_path, quiet as lines-quiet}
-use Rattle.proof_exact.proofs.TextLines.{BodyLines, body-lines}
 use Rattle.proof_exact.proofs.TextGroups.{LeavesText, WithLast, lines-same, with-last}
 use Rattle.proof_exact_lines.proofs.Front.{begin}
 use Rattle.proof_exact_lines.proofs.LeafLines.{underline-one}
@@ -55,7 +50,6 @@ use Rattle.proof_frame.specs.LeafName.{CodeFurther, GfmTable, HeadingSetext, Lea
 use Rattle.proof_frame.specs.Row.{LeafRow, Row as FrameRow, RowKind, TextRow, ending_of, last_row, row_line}
 use Rattle.proof_literal_laws.specs.Leaf.CodeIndented.{is_code}
 use Rattle.proof_leaf_laws.proofs.HeadingSetext.Kinds.{setext-starts}
-use Rattle.proof_leaf_laws.specs.Front.{body_point}
 use Rattle.proof_rows.proofs.EachRow.{AsSingle, AsSpan, AsText, EachRow, OfSpan, OfTable, OfText, OfTurned, Onto}
 use Rattle.proof_rows.proofs.EachRow.{OverLine, onto}
 use Rattle.proof_rows.proofs.GroupLines.{AreGroups, AreLines, AreSpan, IsHead, IsSpanLine, IsUnder}
@@ -63,11 +57,10 @@ use Rattle.proof_rows.proofs.GroupLines.{line-further, span-begins}
 use Rattle.proof_rows.proofs.GroupsAre.{groups-are}
 use Rattle.proof_rows.proofs.JoinedLemmas.{EachNoContent, HasNoContent, events-no_content, has_front-no_content}
 use Rattle.proof_rows.proofs.LineAfter.{line-heads}
-use Rattle.proof_rows.proofs.TextAre.{body-begins, rows_of}
-use Rattle.proof_rows.specs.Rows.{Group, Headed, LeafLines, Lines, Single, Turned, groups, held_at, is_further}
-use Rattle.proof_rows.specs.Rows.{leaf_events, line_following, row_events, rows_at, rows_events, tail_events}
+use Rattle.proof_rows.specs.Rows.{Group, Headed, LeafLines, Lines, Single, Turned, groups, is_further}
+use Rattle.proof_rows.specs.Rows.{leaf_events, line_following, row_events, rows_events, tail_events}
 use Rattle.proof_rows.specs.Rows.{takes_head}
-use Rattle.proof_rows.specs.TextRows.{text_cells, text_rows, text_setting}
+use Rattle.proof_rows.specs.TextRows.{text_rows}
 use Rattle.proof_rows.specs.Unread.{unread_group, unread_groups}
 use Rattle.proof_rows.specs.WithoutMdx.{IsWithoutMdx}
 use Rattle.proof_leaf_laws.proofs.GfmTable.Head.{head-no_content}
@@ -75,9 +68,10 @@ use Rattle.proof_leaf_laws.specs.Headed.{headed_row, heads_read}
 use Rattle.markdown_blocks.specs.ContentRead.{ReadIf, holds_content}
 use Rattle.markdown_blocks.specs.FlowReads.{IsFlowRead}
 use Rattle.markdown_blocks.specs.TextsRead.{AreGroupsRead, AreHeadRead, AreTextRead, AreTextsRead, IsGroupRead}
-use Rattle.markdown_blocks.specs.TextsRead.{body_groups, on_line, underline, unread_line}
+use Rattle.markdown_blocks.specs.TextsRead.{BeginsPart, groups_from, on_line, underline, unread_line}
 use Rattle.markdown_blocks.proofs.ContentGroups.{content-are}
 use Rattle.markdown_blocks.proofs.FlowReads.{AreFlushed, content-step, text-framed, text-quiet}
+use Rattle.markdown_blocks.proofs.PartBegins.{part-line, part-may, part-point}
 
 -- Events among which is no line of text.
 
@@ -493,32 +487,6 @@ groups-read options bytes small (LeafLines r rs ∷ gs) ess are match put =
     (span-quiet options bytes r rs are.0 are.3))
     (λ following more puts. groups-read options bytes small gs following are.2 more (following-put following puts)))
 
--- Where a text has no lines after its front there are no events.
-
-cells-none : (options : ParseOptions) (bytes : List ℕ) → length bytes < 2 ^ 61 → body_lines options bytes ≡ [] →
-    text_cells bytes options (body_point options bytes) ≡ []
-cells-none options bytes small none =
-    let p : Point = body_point options bytes in
-    let size : length bytes - p.index ≡ 0 =
-    sym (length-drop p.index bytes) ∙ ap (λ (l : List ℕ). length l) (body-none options bytes none) in
-    feed-none (text_setting bytes options p) p small (omega (arith, size))
-
-empty-rows : (options : ParseOptions) (bytes : List ℕ) (p : Point) →
-    (rows_events (rows_at options 1 [] held_leaf.None [] p) ≡ []) ×
-    (unread_groups options bytes (groups (rows_at options 1 [] held_leaf.None [] p)) ≡ [])
-unfolding held_at asked_first bars_containers
-empty-rows options bytes p = (refl, refl)
-
-no-events : (options : ParseOptions) (bytes : List ℕ) → length bytes < 2 ^ 61 → body_lines options bytes ≡ [] →
-    (rows_events (rows_of options bytes) ≡ []) × (unread_groups options bytes (groups (rows_of options bytes)) ≡ [])
-no-events options bytes small none =
-    subst
-    (λ (cells : List Cell).
-    (rows_events (rows_at options (suc (length cells)) [] held_leaf.None cells (body_point options bytes)) ≡ []) ×
-    (unread_groups options bytes
-    (groups (rows_at options (suc (length cells)) [] held_leaf.None cells (body_point options bytes))) ≡ []))
-    (sym (cells-none options bytes small none)) (empty-rows options bytes (body_point options bytes))
-
 -- All lines of a text from where one of them begins,
 
 lines-read : (options : ParseOptions) (bytes : List ℕ) → IsWithoutMdx options → length bytes < 2 ^ 61 →
@@ -538,50 +506,41 @@ lines-read options bytes built small number index column fulls is =
     (lines-match options bytes built small number index column fulls is)
     (rows-put options no_path (lines_from number index column fulls)))
 
--- and those after its front.
-body-read : (options : ParseOptions) (bytes : List ℕ) → IsWithoutMdx options → length bytes < 2 ^ 61 →
-    AreGroupsRead options (body_groups options bytes) (rows_events (rows_of options bytes))
-    (unread_groups options bytes (groups (rows_of options bytes)))
-body-read options bytes built small = go (body-lines options bytes)
-  where
-    Are : List TextLine → Point → Type 0
-    Are lines p =
-        AreGroupsRead options (grouped (exact_rows options no_path lines)) (rows_events (text_rows options bytes p))
-        (unread_groups options bytes (groups (text_rows options bytes p)))
-
-    go : (body_lines options bytes ≡ []) ⊎ BodyLines options bytes →
-        Are (body_lines options bytes) (body_point options bytes)
-    go (inl none) =
-        subst (λ (lines : List TextLine). Are lines (body_point options bytes)) (sym none)
-        (no-events options bytes small none)
-    go (inr is) =
-        let left = is.left in
-        subst₂ Are (sym left.is) (sym is.point)
-        (lines-read options bytes built small left.number left.index left.column left.fulls
-        (record { are = left.are; placed = left.placed }))
+-- where a part may begin.
+from-read : (options : ParseOptions) (bytes : List ℕ) (p : Point) → IsWithoutMdx options → length bytes < 2 ^ 61 →
+    BeginsPart bytes p →
+    AreGroupsRead options (groups_from options bytes p) (rows_events (text_rows options bytes p))
+    (unread_groups options bytes (groups (text_rows options bytes p)))
+from-read options bytes p built small begins =
+    subst
+    (λ (q : Point).
+    AreGroupsRead options (groups_from options bytes p) (rows_events (text_rows options bytes q))
+    (unread_groups options bytes (groups (text_rows options bytes q)))) (sym (part-point bytes p begins))
+    (lines-read options bytes built small p.line p.index (p.column - 1) (full_lines_of (drop p.index bytes))
+    (part-line bytes p begins))
 
 -- So they are read.
-pub texts-read : (options : ParseOptions) (bytes : List ℕ) → IsWithoutMdx options → length bytes < 2 ^ 61 →
-    (content : List Event) →
+pub texts-read : (options : ParseOptions) (bytes : List ℕ) (p : Point) → IsWithoutMdx options →
+    length bytes < 2 ^ 61 → BeginsPart bytes p → (content : List Event) →
     Substituted wants_content (content_readings bytes options) [] 0
-    (joined (heads_read options bytes (rows_events (rows_of options bytes)))) content →
-    AreTextsRead options bytes (rows_events (rows_of options bytes)) content
+    (joined (heads_read options bytes (rows_events (text_rows options bytes p)))) content →
+    AreTextsRead options bytes p (rows_events (text_rows options bytes p)) content
 unfolding AreTextsRead
-texts-read options bytes built small content read =
-    subst (AreGroupsRead options (body_groups options bytes) (rows_events (rows_of options bytes)))
-    (sym (content-are options bytes (body_point options bytes) built small (body-begins options bytes) content read))
-    (body-read options bytes built small)
+texts-read options bytes p built small begins content read =
+    subst (AreGroupsRead options (groups_from options bytes p) (rows_events (text_rows options bytes p)))
+    (sym (content-are options bytes p built small (part-may bytes p begins) content read))
+    (from-read options bytes p built small begins)
 
 -- and by the step that reads content
-pub texts_of : (old : World) (found : Found) (new : World) → IsWithoutMdx old.setting.options →
-    length old.setting.bytes < 2 ^ 61 → IsFlowRead old → ReadIf (holds_content old.events) old found new →
-    AreTextsRead old.setting.options old.setting.bytes old.events new.events
-texts_of old found new built small lines h =
-    subst (λ (l : List Event). AreTextsRead options bytes l new.events) (sym lines)
-    (texts-read options bytes built small new.events
-    (content-step bytes options (rows_of options bytes) old found new
-    (text-framed options bytes (body_point options bytes)) (text-quiet options bytes (body_point options bytes)) lines
-    refl refl (holds_content old.events) refl h).read)
+pub texts_of : (p : Point) (old : World) (found : Found) (new : World) → IsWithoutMdx old.setting.options →
+    length old.setting.bytes < 2 ^ 61 → BeginsPart old.setting.bytes p → IsFlowRead p old →
+    ReadIf (holds_content old.events) old found new →
+    AreTextsRead old.setting.options old.setting.bytes p old.events new.events
+texts_of p old found new built small begins lines h =
+    subst (λ (l : List Event). AreTextsRead options bytes p l new.events) (sym lines)
+    (texts-read options bytes p built small begins new.events
+    (content-step bytes options (text_rows options bytes p) old found new (text-framed options bytes p)
+    (text-quiet options bytes p) lines refl refl (holds_content old.events) refl h).read)
   where
     options : ParseOptions
     options = old.setting.options
@@ -589,12 +548,10 @@ texts_of old found new built small lines h =
     bytes : List ℕ
     bytes = old.setting.bytes
 
--- It has read the lines of a text after its front where it has read them from the begin of the body.
-pub flow-read : (options : ParseOptions) (bytes : List ℕ) (p : Point) (w : World) → p ≡ body_point options bytes →
-    AreFlushed bytes options p w → IsFlowRead w
-flow-read options bytes p w begins are =
+-- It has read the lines of a text from a point on where it has read them from there.
+pub flow-read : (options : ParseOptions) (bytes : List ℕ) (p : Point) (w : World) → AreFlushed bytes options p w →
+    IsFlowRead p w
+flow-read options bytes p w are =
     are.events
-    ∙ ap (λ (q : Point). rows_events (text_rows options bytes q)) begins
-    ∙ ap (λ (o : ParseOptions). rows_events (text_rows o bytes (body_point o bytes))) (sym are.options_are)
-    ∙ ap
-    (λ (l : List ℕ). rows_events (text_rows w.setting.options l (body_point w.setting.options l))) (sym are.bytes_are)
+    ∙ ap (λ (o : ParseOptions). rows_events (text_rows o bytes p)) (sym are.options_are)
+    ∙ ap (λ (l : List ℕ). rows_events (text_rows w.setting.options l p)) (sym are.bytes_are)

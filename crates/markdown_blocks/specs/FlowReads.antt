@@ -23,7 +23,6 @@ use Rattle.md_events.specs.Substituted.{Substituted}
 use Rattle.md_flow.specs.Nests.{TextsNest}
 use Rattle.markdown_blocks.specs.Fed.{FlowRan}
 use Rattle.markdown_blocks.specs.TextMet.{TextsMet}
-use Rattle.proof_leaf_laws.specs.Front.{body_point}
 use Rattle.proof_leaf_laws.specs.Headed.{heads_read}
 use Rattle.proof_frame.specs.Row.{Row}
 use Rattle.proof_rows.specs.Rows.{is_text, rows_events}
@@ -35,12 +34,9 @@ abbrev pub has_text : List Row → Bool
 has_text [] = false
 has_text (row ∷ rows) = is_text row.kind || has_text rows
 
--- flow has read the lines of a text after its front
-abbrev pub IsFlowRead : World → Type 0
-IsFlowRead w =
-    w.events ≡
-    rows_events
-    (text_rows w.setting.options w.setting.bytes (body_point w.setting.options w.setting.bytes))
+-- flow has read the lines of a text from a point to its end
+abbrev pub IsFlowRead : Point → World → Type 0
+IsFlowRead p w = w.events ≡ rows_events (text_rows w.setting.options w.setting.bytes p)
 
 -- flow has read a text from a point to its end, and then its content was read and its blocks were set
 pub record FlowReads (bytes : List ℕ) (options : ParseOptions) (p : Point) (found : Found) (new : World) : Type 0 where

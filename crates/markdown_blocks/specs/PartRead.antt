@@ -1,7 +1,7 @@
 -- A part of a text: where it may begin, where it may end, and that the text has what is in it, and then what it has
 -- from there on.
 use Rattle.std.specs.Prelude.{◌≡◌, ◌⊎◌, ℕ, ◌+◌, ◌-◌, ◌<◌, ◌≤◌, Bool, true, false, ◌&&◌, ◌||◌, not, if◌then◌else◌}
-use Rattle.std.specs.Prelude.{IsTrue, List, [], ◌++◌, Option, Some, None, drop, length, map, nat_lt, slice_index}
+use Rattle.std.specs.Prelude.{IsTrue, List, [], ◌++◌, Option, Some, None, drop, length, map, nat_lt, slice_index, take}
 use Rattle.std.specs.String.{string_bytes}
 use Rattle.md_engine.specs.declared.configuration.ParseOptions.{ParseOptions}
 use Rattle.md_engine.specs.declared.event.Event.{Event}
@@ -13,9 +13,10 @@ use Rattle.md_engine.specs.Place.{IsPlaced, is_ending, is_pair}
 use Rattle.md_engine.specs.World.{World}
 use Rattle.md_events.specs.Events.Inline.{Covers, pieces}
 use Rattle.md_events.specs.Events.Nested.{Nested}
-use Rattle.md_events.specs.Events.Places.{are_placed, first_point}
+use Rattle.md_events.specs.Events.Places.{are_placed, first_point, same_place}
 use Rattle.md_events.specs.Events.Tiles.{IsBlockList, end_point}
 use Rattle.md_events.specs.Lined.{lined}
+use Rattle.md_events.specs.Parts.{ArePlaced}
 use Rattle.md_events.specs.TextPart.{wants_text}
 use Rattle.md_events.specs.Exact.Blocks.{exact}
 use Rattle.md_meaning.specs.Label.{Labels, both, labels, no_labels}
@@ -29,13 +30,7 @@ use Rattle.md_meaning.specs.Tree.{Blocks}
 use Rattle.proof_exact.specs.Parts.{events_from, nothing_open}
 use Rattle.markdown_blocks.specs.declared.parts.Part.{Part}
 use Rattle.markdown_blocks.specs.Fed.{line_begins}
-
--- a part may begin at this point of a text: a line does there, and no tab is cut
-pub record BeginsPart (text : List ℕ) (p : Point) : Type 0 where
-  pub placed : IsPlaced text p
-  pub inside : p.index < length text
-  pub whole : p.vs ≡ 0
-  pub column : 1 ≤ p.column
+pub use Rattle.markdown_blocks.specs.TextsRead.{BeginsPart}
 
 -- whether a line begins at this byte, after another line
 abbrev pub is_line_begin : List ℕ → ℕ → Bool
@@ -69,9 +64,13 @@ MayEnd text p to state w =
 
 -- What a text has from a point on, where a line begins and nothing is open.
 
--- its events, with its text parts read as lines
+-- its events, whose text parts are not read,
+abbrev pub unread_at : ParseOptions → List ℕ → Point → List Event
+unread_at options text p = events_from options text p.line p.index (p.column - 1)
+
+-- and with its text parts read as lines
 abbrev pub events_at : ParseOptions → List ℕ → Point → List Event
-events_at options text p = lined wants_text text (events_from options text p.line p.index (p.column - 1))
+events_at options text p = lined wants_text text (unread_at options text p)
 
 -- its blocks
 abbrev pub blocks_at : ParseOptions → List ℕ → Point → Blocks
@@ -83,6 +82,10 @@ abbrev pub labels_at : ParseOptions → List ℕ → Point → Labels
 labels_at options text p = labels (blocks_at options text p)
 
 -- The same from a point on, if there is one.
+
+abbrev pub unread_after : ParseOptions → List ℕ → Option Point → List Event
+unread_after options text None = []
+unread_after options text (Some p) = unread_at options text p
 
 abbrev pub events_after : ParseOptions → List ℕ → Option Point → List Event
 events_after options text None = []
@@ -100,6 +103,11 @@ point_in text p = if nat_lt p.index (length text) then Some p else None
 abbrev pub point_after : List ℕ → Option Point → Point
 point_after text None = end_point text
 point_after text (Some p) = p
+
+-- the bytes before it, or all
+abbrev pub before_next : List ℕ → Option Point → List ℕ
+before_next text None = text
+before_next text (Some p) = take p.index text
 
 -- A part.
 
@@ -125,6 +133,24 @@ pub record HasPart (options : ParseOptions) (text : List ℕ) (p : Point) (part 
     -- it has some, and reaches from the one point to the other
     pub some : 0 < length part.events.items
     pub laid : AreLaid text p part.events.items (point_after text next)
+
+-- The same before its text parts are read.
+pub record HasUnread (options : ParseOptions) (text : List ℕ) (p : Point) (part : Part) (next : Option Point) : Type 0
+  where
+    pub events : unread_at options text p ≡ part.events.items ++ unread_after options text next
+    pub labels : labels_at options text p ≡ both (labels_of part) (labels_after options text next)
+    -- it is a block list of its bytes, which are some, and where these end the next part begins
+    pub list : IsBlockList (before_next text next) part.events.items
+    pub covers : Covers p (pieces part.events.items) (end_point (before_next text next))
+    pub some : p.index < length (before_next text next)
+    pub place : same_place (end_point (before_next text next)) (point_after text next) ≡ true
+    pub within : (q : Point) → IsPlaced (before_next text next) q → IsPlaced text q
+
+-- All blocks of a text, those of its front with them, whose text parts are not read.
+pub record AreAllBlocks (options : ParseOptions) (text : List ℕ) (all : Part) : Type 0 where
+  pub are : all.events.items ≡ exact options text
+  pub placed : ArePlaced text all.events.items
+  pub labels_are : labels_of all ≡ labels (tree options text)
 
 -- What is left of a text that is read part by part: all of it before its front is read, and then what it has from the
 -- next part on, if there is one.
@@ -153,12 +179,11 @@ labels_listed options all = record {
   footnotes = if options.constructs.gfm_footnote_definition then all.footnotes else [];
 }
 
--- What was read of a text from a point on to its end is this part: before its text parts were read as lines, its events
--- are a block list.
+-- What was read of a text from a point on to its end is this part, whose text parts are not read.
 pub record IsPartRead (options : ParseOptions) (bytes : List ℕ) (p : Point) (part : Part) : Type 0 where
-  pub are : part.events.items ≡ events_at options bytes p
-  pub list : IsBlockList bytes (events_from options bytes p.line p.index (p.column - 1))
-  pub laid : AreLaid bytes p part.events.items (end_point bytes)
+  pub are : part.events.items ≡ unread_at options bytes p
+  pub list : IsBlockList bytes part.events.items
+  pub covers : Covers p (pieces part.events.items) (end_point bytes)
   pub labels_are : labels_of part ≡ labels_listed options (labels_at options bytes p)
 
 -- What is left of a text begins with these events of its front, if any, and the next part begins after them.

@@ -4,11 +4,12 @@
 --
 -- The latter two see a text without the prefixes of containers: after the ending of a line comes what is left of the next.
 -- `laid` puts what they add into its places: there a line ends before the prefixes of the next, and these are between.
-use Rattle.std.specs.Prelude.{◌≡◌, ◌<◌, ◌^◌, ℕ, Bool, true, false, ◌&&◌, List, [], ◌∷◌, ◌++◌, length, Some}
+use Rattle.std.specs.Prelude.{◌≡◌, ◌<◌, ◌≤◌, ◌^◌, ℕ, Bool, true, false, ◌&&◌, List, [], ◌∷◌, ◌++◌, length, Some}
 use Rattle.std.specs.List.{list_all}
 use Rattle.std.specs.Option.{is_some}
 use Rattle.md_engine.specs.declared.configuration.ParseOptions.{ParseOptions}
 use Rattle.md_engine.specs.declared.event.Event.{Event}
+use Rattle.md_engine.specs.declared.event.Point.{Point}
 use Rattle.md_engine.specs.declared.state.State.{State}
 use Rattle.md_engine.specs.declared.tokenizer.Line.{Line}
 use Rattle.md_engine.specs.Meaning.{Accepts, Behaviour, Cell, Feed, Here, Outcome, Refuses, here}
@@ -16,6 +17,7 @@ use Rattle.md_engine.specs.Sees.{Sees}
 use Rattle.md_engine.specs.World.{World}
 use Rattle.md_events.proofs.RestCells.{rest_cells}
 use Rattle.md_events.specs.Spaces.{IsRest}
+use Rattle.md_events.specs.Events.Places.{is_placed}
 use Rattle.md_events.specs.Exact.Leaves.{last_end, start}
 use Rattle.md_events.specs.Exact.Places.{TextLine, line_end, next_line, place}
 use Rattle.md_events.specs.Exact.Rows.{FirstText, FurtherText, Role, Row}
@@ -23,7 +25,7 @@ use Rattle.md_events.specs.Exact.Texts.{definition, definition_end, gap, lines_l
 use Rattle.md_meaning.specs.Definition.{definition_at}
 use Rattle.md_meaning.specs.Rest.{Rest, after_indent}
 use Rattle.md_flow.specs.LineRule.{IsNext, IsTaken, Leaves}
-use Rattle.markdown_blocks.specs.TextsRead.{IsUnderline, body_groups}
+use Rattle.markdown_blocks.specs.TextsRead.{IsUnderline, groups_from}
 use Rattle.proof_frame.specs.Laid.{LineBreak, laid}
 use Rattle.proof_rows.specs.WithoutMdx.{IsWithoutMdx}
 
@@ -43,14 +45,18 @@ is_text FirstText = true
 is_text FurtherText = true
 is_text role = false
 
--- These are left of the lines of a text that the body of a document has: all after some, but for the line that
--- underlines them, if one does.
+-- These are left of the lines of a text in a document that is read from a point on, where no tab is cut: all after
+-- some, but for the line that underlines them, if one does.
 pub record AreLeft (options : ParseOptions) (source : List ℕ) (rows : List Row) : Type 0 where
+  pub from : Point
+  pub placed : is_placed source from ≡ true
+  pub whole : from.vs ≡ 0
+  pub column : 1 ≤ from.column
   pub front : List (List Row)
   pub back : List (List Row)
   pub passed : List Row
   pub under : List Row
-  pub groups : body_groups options source ≡ front ++ (passed ++ (rows ++ under)) ∷ back
+  pub groups : groups_from options source from ≡ front ++ (passed ++ (rows ++ under)) ∷ back
   pub lines : list_all (λ (row : Row). is_text row.role) (passed ++ rows) ≡ true
   pub underlines : IsUnderline under
 

@@ -1,15 +1,18 @@
 -- What reading content makes of the lines of a text, in words of the exact list: of each leaf, what its lines were
 -- before and what they are after. Lists are put around items later.
-use Rattle.std.specs.Prelude.{◌≡◌, ◌⊎◌, ℕ, false, List, [], ◌∷◌, ◌++◌, drop, flat_map}
+use Rattle.std.specs.Prelude.{◌≡◌, ◌⊎◌, ℕ, ◌-◌, ◌<◌, ◌≤◌, false, List, [], ◌∷◌, ◌++◌, drop, flat_map, length}
 use Rattle.md_engine.specs.declared.configuration.ParseOptions.{ParseOptions}
 use Rattle.md_engine.specs.declared.event.Event.{Event}
 use Rattle.md_engine.specs.declared.event.Name.TheVariants as n
+use Rattle.md_engine.specs.declared.event.Point.{Point}
+use Rattle.md_engine.specs.Place.{IsPlaced}
 use Rattle.md_content.specs.Chunks.{content_link}
 use Rattle.md_events.specs.Events.Nested.{enter_link, exit}
-use Rattle.md_events.specs.Exact.Blocks.{front_size, grouped, tail, text_lines}
+use Rattle.md_events.specs.Exact.Blocks.{grouped, tail}
 use Rattle.md_events.specs.Exact.Leaves.{leaf, runs_line}
-use Rattle.md_events.specs.Exact.Places.{line_end, place}
+use Rattle.md_events.specs.Exact.Places.{line_end, lines_from, place}
 use Rattle.md_events.specs.Exact.Rows.{Head, Row, Underline, rows_of}
+use Rattle.md_meaning.specs.Lines.{full_lines_of}
 use Rattle.md_meaning.specs.State.{At}
 use Rattle.md_meaning.specs.Step.{spot_of}
 use Rattle.md_meaning.specs.Tree.{End}
@@ -85,10 +88,18 @@ abbrev pub AreGroupsRead : ParseOptions → List (List Row) → List Event → L
 AreGroupsRead options [] old new = (old ≡ []) × (new ≡ [])
 AreGroupsRead options (rows ∷ groups) old new = FirstRead options rows (AreGroupsRead options groups) old new
 
--- those of the body of a text
-abbrev pub body_groups : ParseOptions → List ℕ → List (List Row)
-body_groups options source =
-    grouped (rows_of options (At (spot_of End)) (drop (front_size options source) (text_lines source)))
+-- A part may begin at this point of a text: a line does there, and no tab is cut.
+pub record BeginsPart (text : List ℕ) (p : Point) : Type 0 where
+  pub placed : IsPlaced text p
+  pub inside : p.index < length text
+  pub whole : p.vs ≡ 0
+  pub column : 1 ≤ p.column
 
-unfoldable pub AreTextsRead : ParseOptions → List ℕ → List Event → List Event → Type 0
-AreTextsRead options source old new = AreGroupsRead options (body_groups options source) old new
+-- the lines of a text from such a point on, before which nothing is open
+abbrev pub groups_from : ParseOptions → List ℕ → Point → List (List Row)
+groups_from options source p =
+    grouped
+    (rows_of options (At (spot_of End)) (lines_from p.line p.index (p.column - 1) (full_lines_of (drop p.index source))))
+
+unfoldable pub AreTextsRead : ParseOptions → List ℕ → Point → List Event → List Event → Type 0
+AreTextsRead options source p old new = AreGroupsRead options (groups_from options source p) old new

@@ -1,6 +1,7 @@
 // A parser of Markdown blocks.
 #![tactic(auto)]
 
+mod blocks;
 pub mod construct;
 pub mod engine;
 pub mod label;

@@ -3,8 +3,7 @@
 ghost use Rattle.std.specs.Prelude.{◌≡◌, ◌≤◌, IfOk, OnOk, [], false, length, map, string_bytes};
 ghost use Rattle.std.specs.List.{prefix_len};
 ghost use Rattle.md_engine.specs.Found.{found_in, nothing};
-ghost use Rattle.md_engine.specs.Place.{IsPlaced};
-ghost use Rattle.md_engine.specs.World.{fresh, world};
+ghost use Rattle.md_engine.specs.World.{world};
 ghost use Rattle.md_content.specs.Joined.{is_content};
 ghost use Rattle.md_registry.specs.Document.{ReadsFront};
 ghost use Rattle.md_registry.specs.Resolving.{lines_joined};
@@ -12,21 +11,20 @@ ghost use Rattle.md_leaves.specs.Spanned.{passes_on};
 ghost use Rattle.md_leaves.specs.Turned.{HoldNoUnderline};
 ghost use Rattle.markdown_blocks.specs.Alone.{may_change, passes_alone, stays_by_name};
 ghost use Rattle.markdown_blocks.specs.ContentRead.{AreSideBySide, ReadIf, holds_content};
-ghost use Rattle.markdown_blocks.specs.FlowReads.{FlowReads, IsFlowRead};
-ghost use Rattle.proof_leaf_laws.specs.Front.{body_point};
+ghost use Rattle.markdown_blocks.specs.FlowReads.{IsFlowRead};
 ghost use Rattle.markdown_blocks.specs.FrontRead.{exact_front};
-ghost use Rattle.markdown_blocks.specs.TextsRead.{AreTextsRead};
+ghost use Rattle.markdown_blocks.specs.TextsRead.{AreTextsRead, BeginsPart};
 ghost use Rattle.md_order.specs.Alone.{MayPass};
 ghost use Rattle.md_order.specs.InOrder.{every, in_order};
 ghost use Rattle.proof_container_laws.specs.Footnotes.{footnotes_listed};
 ghost use Rattle.markdown_blocks.specs.Parsed.{IsParsed, IsRead, IsWithoutMdx};
 ghost use Rattle.md_meaning.specs.Wrapped.{IsSmall};
 
+use crate::blocks::read_blocks;
 pub use crate::parts::{Part, Parts};
 pub use crate::place::place_of;
 use crate::plain::Plain;
 use crate::text_parts::read_text_parts;
-use md_at_once::table::FlowTable;
 use md_content::footnote_labels::footnote_labels;
 use md_engine::configuration::ParseOptions;
 use md_engine::event::{Event, Name, Point};
@@ -79,41 +77,6 @@ pub(crate) fn read_front<'a>(
         end => end,
     };
     flush::<DocumentTable>(&mut tokenizer, end, false)?;
-    Ok(tokenizer)
-}
-
-/// For how many events a byte of text a list has room at once: as many as `-` has, an empty item in a list of its own.
-const EVENTS_A_BYTE: usize = 8;
-
-/// For the events of so many bytes, at most: a list for them is large enough that the C library maps it, so that it
-/// copies none of them when the list grows.
-const BYTES_WITH_ROOM: usize = 512;
-
-/// An empty list with room for the events of a text, or of its first bytes.
-fn with_room(alloc: Global, bytes: &[u8]) -> Result<Vec<Event>, Message>
-    ensures { IfOk result (λ events. events.items ≡ []) }
-{
-    match Vec::with_capacity(alloc, EVENTS_A_BYTE * bytes.len().min(BYTES_WITH_ROOM)) {
-        Ok(events) => Ok(events),
-        Err(_) => Err(Message),
-    }
-}
-
-/// A tokenizer at a point, whose list of events has room.
-///
-/// An `Err` says that memory ran out.
-fn flow_tokenizer<'a>(
-    alloc: Global,
-    bytes: &'a [u8],
-    options: &'a ParseOptions,
-    start: Point,
-) -> Result<Tokenizer<'a>, Message>
-    requires { IsPlaced bytes.now start }
-    ensures { IfOk result (λ tokenizer. world tokenizer ≡ fresh bytes.now options.now start) }
-{
-    let mut tokenizer = Tokenizer::new(alloc, start, bytes, options);
-    let events = with_room(alloc, bytes)?;
-    tokenizer.set_events(events);
     Ok(tokenizer)
 }
 
@@ -283,10 +246,7 @@ fn nothing(alloc: Global) -> Subresult
 /// they do, and that none is of a line of text.
 ///
 /// An `Err` says that memory ran out.
-pub(crate) fn read_content(
-    tokenizer: &mut Tokenizer,
-    known: usize,
-) -> Result<(Subresult, usize), Message>
+fn read_content(tokenizer: &mut Tokenizer, known: usize) -> Result<(Subresult, usize), Message>
     requires frames { (world tokenizer.old).frames ≡ [] }
     requires known { known ≤ prefix_len passes_alone (world tokenizer.old).events }
     requires side { AreSideBySide (world tokenizer.old).events }
@@ -307,18 +267,23 @@ pub(crate) fn read_content(
     }
 }
 
-/// Reads the content of the lines of a text that flow has read, as `read_content`. A text becomes the definitions and
-/// the paragraph that the exact list has for its lines, a line is read again as a head just where it is one there, and
-/// all other lines stay (`texts`).
+/// Reads the content of the lines that flow has read of a text from a point to its end, as `read_content`. A text becomes
+/// the definitions and the paragraph that the exact list has for its lines, a line is read again as a head just where it
+/// is one there, and all other lines stay (`texts`).
 ///
 /// An `Err` says that memory ran out.
-fn read_texts(tokenizer: &mut Tokenizer, known: usize) -> Result<(Subresult, usize), Message>
+pub(crate) fn read_texts(
+    tokenizer: &mut Tokenizer,
+    _start: Point,
+    known: usize,
+) -> Result<(Subresult, usize), Message>
     requires frames { (world tokenizer.old).frames ≡ [] }
     requires known { known ≤ prefix_len passes_alone (world tokenizer.old).events }
     requires side { AreSideBySide (world tokenizer.old).events }
     requires built { IsWithoutMdx (world tokenizer.old).setting.options }
     requires small { IsSmall (world tokenizer.old).setting.bytes }
-    requires lines { IsFlowRead (world tokenizer.old) }
+    requires begins { BeginsPart (world tokenizer.old).setting.bytes _start }
+    requires lines { IsFlowRead _start (world tokenizer.old) }
     ensures content { IfOk result
         (λ read.
         ReadIf (holds_content (world tokenizer.old).events) (world tokenizer.old) (found_in read.0)
@@ -327,7 +292,7 @@ fn read_texts(tokenizer: &mut Tokenizer, known: usize) -> Result<(Subresult, usi
         (λ read. read.1 ≤ prefix_len (passes_on Place.Outside) (world tokenizer.new).events) }
     ensures texts { IfOk result
         (λ read.
-        AreTextsRead (world tokenizer.old).setting.options (world tokenizer.old).setting.bytes
+        AreTextsRead (world tokenizer.old).setting.options (world tokenizer.old).setting.bytes _start
         (world tokenizer.old).events (world tokenizer.new).events) }
 {
     let read = read_content(tokenizer, known)?;
@@ -361,39 +326,6 @@ pub(crate) fn resolve_blocks(
     let underlines = join_lines(tokenizer, options, same.max(many))?;
     pass_all(tokenizer, underlines)?;
     Ok(())
-}
-
-/// Reads the lines of a text from a point on by flow, and then its content; joins the lines of each leaf of several,
-/// and runs the resolvers of items, headings and tables. One test of each event may show that none of this changes
-/// anything.
-///
-/// An `Err` says that memory ran out.
-pub(crate) fn read_flow<'a>(
-    alloc: Global,
-    bytes: &'a [u8],
-    options: &'a ParseOptions,
-    start: Point,
-) -> Result<(Tokenizer<'a>, Subresult), Message>
-    requires small { IsSmall bytes.now }
-    requires built { IsWithoutMdx options.now }
-    requires placed { IsPlaced bytes.now start }
-    requires begins { start ≡ body_point options.now bytes.now }
-    ensures { IfOk result (λ read. FlowReads bytes.now options.now start (found_in read.1) (world read.0)) }
-{
-    let mut tokenizer = flow_tokenizer(alloc, bytes, options, start)?;
-    let start = State::Next(StateName::Document(DocumentState::ContainerExistingBefore));
-    let end = match push::<FlowTable>(&mut tokenizer, bytes.len(), start) {
-        State::Error => return Err(Message),
-        end => end,
-    };
-    flush::<FlowTable>(&mut tokenizer, end, false)?;
-    let same = until_changed(&tokenizer.events);
-    if same == tokenizer.events.len() {
-        return Ok((tokenizer, nothing(alloc)));
-    }
-    let (found, many) = read_texts(&mut tokenizer, same)?;
-    resolve_blocks(&mut tokenizer, options, many)?;
-    Ok((tokenizer, found))
 }
 
 /// The labels of the footnote definitions among the events of a text, where these are on.
@@ -431,16 +363,14 @@ pub fn parse_with<'a, I: Inline>(
         (λ parsed. IsRead (I.reads inline.now) value.now options.now parsed.0.items parsed.1) }
 {
     let bytes = value.as_bytes();
-    let front = read_front(alloc, bytes, options)?;
-    let (tokenizer, found) = read_flow(alloc, bytes, options, front.point)?;
-    let footnotes = footnotes_of(alloc, bytes, options, &tokenizer.events)?;
+    let blocks = read_blocks(alloc, bytes, options)?;
     let state = ParseState {
         options,
         bytes,
-        definitions: found.definitions,
-        gfm_footnote_definitions: footnotes,
+        definitions: blocks.definitions,
+        gfm_footnote_definitions: blocks.gfm_footnote_definitions,
     };
-    let events = read_text_parts(alloc, inline, &state, front.events, tokenizer.events)?;
+    let events = read_text_parts(alloc, inline, &state, blocks.events)?;
     Ok((events, state))
 }
 

@@ -33,11 +33,12 @@ ghost use Rattle.md_registry.specs.States.{FlowStep, flow_table_scheme};
 ghost use Rattle.markdown_blocks.specs.Fed.{flow_begins, line_begins};
 ghost use Rattle.markdown_blocks.specs.FlowReads.{FlowReads};
 ghost use Rattle.markdown_blocks.specs.Parsed.{IsParsed, IsSmall, IsWithoutMdx};
-ghost use Rattle.markdown_blocks.specs.PartRead.{AreAhead, AreLaid, BeginsPart, HasPart, IsPartRead, MayEnd};
-ghost use Rattle.markdown_blocks.specs.PartRead.{MayRead, WaitsInText, WaitsOutside, is_filled_end, is_line_begin};
-ghost use Rattle.markdown_blocks.specs.PartRead.{labels_of, point_in};
+ghost use Rattle.markdown_blocks.specs.PartRead.{AreAhead, AreLaid, HasUnread, HasPart, IsPartRead, MayEnd, MayRead};
+ghost use Rattle.markdown_blocks.specs.PartRead.{WaitsInText, WaitsOutside, before_next, is_filled_end};
+ghost use Rattle.markdown_blocks.specs.PartRead.{is_line_begin, labels_of, point_in};
+ghost use Rattle.markdown_blocks.specs.TextsRead.{BeginsPart};
 
-use crate::parser::{footnotes_of, read_content, read_front, resolve_blocks, until_changed};
+use crate::parser::{footnotes_of, read_front, read_texts, resolve_blocks, until_changed};
 use md_at_once::table::FlowTable;
 use md_engine::class::above_cr_len;
 use md_engine::configuration::ParseOptions;
@@ -58,7 +59,7 @@ use std::alloc::Global;
 use std::mem;
 
 /// How many bytes a part has at least, if the text has as many.
-const LEAST: usize = 64 * 1024;
+pub(crate) const LEAST: usize = 64 * 1024;
 
 /// For so many bytes more a part is tried to end after a paragraph alone: few other lines show by themselves that they
 /// are the last of a block.
@@ -387,13 +388,12 @@ fn set_lines<'a>(
     let mut tokenizer = pushed;
     flush::<FlowTable>(&mut tokenizer, state, false)?;
     let same = until_changed(&tokenizer.events);
-    let (found, many) = read_content(&mut tokenizer, same)?;
+    let (found, many) = read_texts(&mut tokenizer, start, same)?;
     resolve_blocks(&mut tokenizer, options, many)?;
     Ok((tokenizer, found))
 }
 
-/// A part, whose text parts are read as lines: each is `Data` over each line, if it is not empty, and `LineEnding` over
-/// its ending.
+/// The blocks that flow has read of a text, and the labels of the definitions among them. Their text parts are not read.
 ///
 /// An `Err` says that memory ran out.
 fn part_of<'a>(
@@ -411,23 +411,15 @@ fn part_of<'a>(
     ensures { IfOk result (λ part. IsPartRead options.now bytes.now start part) }
 {
     let gfm_footnote_definitions = footnotes_of(alloc, bytes, options, &tokenizer.events)?;
-    let state = ParseState {
-        options,
-        bytes,
-        definitions: Vec::new(alloc),
-        gfm_footnote_definitions: Vec::new(alloc),
-    };
-    let reader = LineReader { state: &state };
-    let events = subtokenize(alloc, &reader, tokenizer.events)?;
     Ok(Part {
-        events,
+        events: tokenizer.events,
         definitions: found.definitions,
         gfm_footnote_definitions,
     })
 }
 
-/// Reads a part from a point to the begin of a line, if it may end there. Returns where the next part begins, too. A
-/// list of events that is lent is left where the part may not end there.
+/// Reads the blocks of a part from a point to the begin of a line, if it may end there. Returns where the next part
+/// begins, too. A list of events that is lent is left where the part may not end there.
 ///
 /// An `Err` says that memory ran out.
 fn read_cut(
@@ -445,7 +437,7 @@ fn read_cut(
     requires within { to < length text.now }
     requires begins { is_line_begin text.now to ≡ true }
     ensures part { IfOk result
-        (λ read. IfSome read (λ read. HasPart options.now text.now start read.0 (Some read.1))) }
+        (λ read. IfSome read (λ read. HasUnread options.now text.now start read.0 (Some read.1))) }
     ensures next { IfOk result (λ read. IfSome read (λ read. MayRead options.now text.now read.1)) }
 {
     let bytes = &text[..to];
@@ -460,7 +452,7 @@ fn read_cut(
     Ok(Some((part, next)))
 }
 
-/// Reads a part from a point to the end of the text.
+/// Reads the blocks of a part from a point to the end of the text.
 ///
 /// An `Err` says that memory ran out.
 fn read_last(
@@ -473,17 +465,18 @@ fn read_last(
     requires small { IsSmall text.now }
     requires built { IsWithoutMdx options.now }
     requires may { MayRead options.now text.now start }
-    ensures { IfOk result (λ part. HasPart options.now text.now start part None) }
+    ensures { IfOk result (λ part. HasUnread options.now text.now start part None) }
 {
     let (tokenizer, state) = push_lines(alloc, text, options, start, lent)?;
     let (tokenizer, found) = set_lines(text, options, start, tokenizer, state)?;
     part_of(alloc, text, options, start, tokenizer, found)
 }
 
-/// Reads a part from a point on, of so many bytes at least. Returns where the next part begins, too, if there is one.
+/// Reads the blocks of a part from a point on, of so many bytes at least. Returns where the next part begins, too, if
+/// there is one.
 ///
 /// An `Err` says that memory ran out.
-fn read_at_least(
+pub(crate) fn read_at_least(
     alloc: Global,
     text: &[u8],
     options: &ParseOptions,
@@ -494,7 +487,7 @@ fn read_at_least(
     requires small { IsSmall text.now }
     requires built { IsWithoutMdx options.now }
     requires may { MayRead options.now text.now start }
-    ensures part { IfOk result (λ read. HasPart options.now text.now start read.0 read.1) }
+    ensures part { IfOk result (λ read. HasUnread options.now text.now start read.0 read.1) }
     ensures next { IfOk result (λ read. ForSome read.1 (λ next. MayRead options.now text.now next)) }
 {
     let mut to = part_end(text, start.index, least.max(1));
@@ -508,8 +501,54 @@ fn read_at_least(
     Ok((part, None))
 }
 
+/// The bytes of a text before the next part, if there is one.
+fn before_next(text: &[u8], next: Option<Point>) -> &[u8]
+    requires { ForSome next (λ next. next.index ≤ length text.now) }
+    ensures { result.now ≡ before_next text.now next }
+{
+    match next {
+        Some(next) => &text[..next.index],
+        None => text,
+    }
+}
+
+/// Reads a part from a point on, of so many bytes at least. Its text parts are read as lines: each is `Data` over each
+/// line, if it is not empty, and `LineEnding` over its ending. Returns where the next part begins, too, if there is one.
+///
+/// An `Err` says that memory ran out.
+fn read_part(
+    alloc: Global,
+    text: &[u8],
+    options: &ParseOptions,
+    start: Point,
+    least: usize,
+    lent: &mut Vec<Event>,
+) -> Result<(Part, Option<Point>), Message>
+    requires small { IsSmall text.now }
+    requires built { IsWithoutMdx options.now }
+    requires may { MayRead options.now text.now start }
+    ensures part { IfOk result (λ read. HasPart options.now text.now start read.0 read.1) }
+    ensures next { IfOk result (λ read. ForSome read.1 (λ next. MayRead options.now text.now next)) }
+{
+    let (part, next) = read_at_least(alloc, text, options, start, least, lent)?;
+    let state = ParseState {
+        options,
+        bytes: before_next(text, next),
+        definitions: Vec::new(alloc),
+        gfm_footnote_definitions: Vec::new(alloc),
+    };
+    let reader = LineReader { state: &state };
+    let events = subtokenize(alloc, &reader, part.events)?;
+    let lined = Part {
+        events,
+        definitions: part.definitions,
+        gfm_footnote_definitions: part.gfm_footnote_definitions,
+    };
+    Ok((lined, next))
+}
+
 /// A point, if it is in the text.
-fn point_in(text: &[u8], point: Point) -> Option<Point>
+pub(crate) fn point_in(text: &[u8], point: Point) -> Option<Point>
     ensures { result ≡ point_in text.now point }
 {
     if point.index < text.len() {
@@ -623,7 +662,7 @@ impl<'a> Parts<'a> {
         let Some(start) = start else {
             return Ok(None);
         };
-        let (part, next) = read_at_least(
+        let (part, next) = read_part(
             self.alloc,
             self.bytes,
             self.options,

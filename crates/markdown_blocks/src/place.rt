@@ -2,16 +2,12 @@
 
 ghost use Rattle.std.specs.Prelude.{◌≡◌, ◌∷◌, [], IfOk, IfSome, true};
 ghost use Rattle.md_events.specs.Events.Tiles.{part_at, part_kind};
-ghost use Rattle.md_events.specs.Parts.{ArePlaced};
 ghost use Rattle.md_events.specs.TextPart.{IsTextPart, document_of};
-ghost use Rattle.md_events.specs.Exact.Blocks.{exact};
-ghost use Rattle.md_meaning.specs.Wrapped.{IsSmall};
 ghost use Rattle.markdown_blocks.specs.Parsed.{IsWithoutMdx};
 ghost use Rattle.markdown_blocks.specs.PartPlaces.{IsPartAt, IsPlaceOf, chunk_at, chunks_in};
 
-use crate::parser::{read_flow, read_front};
+use crate::blocks::read_blocks;
 use crate::part_places::{begins_chunk, ends_part, last_after, place_by};
-use crate::text_parts::after_front;
 use md_engine::configuration::ParseOptions;
 use md_engine::event::{Event, Kind, Name};
 use md_engine::message::Message;
@@ -108,20 +104,6 @@ fn is_without_mdx(options: &ParseOptions) -> bool
         && !constructs.mdx_jsx_text
 }
 
-/// The blocks of a text, whose text parts are not read.
-///
-/// An `Err` says that memory ran out.
-fn read_blocks(alloc: Global, bytes: &[u8], options: &ParseOptions) -> Result<Vec<Event>, Message>
-    requires small { IsSmall bytes.now }
-    requires built { IsWithoutMdx options.now }
-    ensures are { IfOk result (λ events. events.items ≡ exact options.now bytes.now) }
-    ensures placed { IfOk result (λ events. ArePlaced bytes.now events.items) }
-{
-    let front = read_front(alloc, bytes, options)?;
-    let (tokenizer, _found) = read_flow(alloc, bytes, options, front.point)?;
-    after_front(front.events, tokenizer.events)
-}
-
 /// Where a text part of a document is: in a cell of a table, in the paragraph that is the first block of an item, or
 /// elsewhere. In the exact list of the events of a document a part has one place, and this is it.
 ///
@@ -146,7 +128,7 @@ pub fn place_of(
         return Err(Message);
     }
     let blocks = read_blocks(alloc, state.bytes, state.options)?;
-    match place_among(&blocks, kind, chunks) {
+    match place_among(&blocks.events, kind, chunks) {
         Some(place) => Ok(place),
         None => Err(Message),
     }

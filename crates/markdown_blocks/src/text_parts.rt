@@ -3,8 +3,7 @@
 // A layer that finds nothing but lines is asked for no part: the parser reads the lines itself. Any other layer is asked
 // for each part once it is known where all parts are, with the labels of the document made ready to be looked up.
 
-ghost use Rattle.std.specs.Prelude.{◌≡◌, ◌<◌, ◌++◌, IfOk, None, OnOk, [], drop, length, true};
-ghost use Rattle.std.specs.List.{list_all};
+ghost use Rattle.std.specs.Prelude.{◌≡◌, ◌<◌, IfOk, None, OnOk, [], drop, length};
 ghost use Rattle.md_events.specs.Parts.{ArePlaced};
 ghost use Rattle.md_events.specs.Substituted.{Begun, Substituted, chunks_from, stays, wanted};
 ghost use Rattle.md_events.specs.TextPart.{AreBlocks, AreLabelsOf, IsTextPart, IsTextPartAt, document_of};
@@ -82,22 +81,6 @@ impl<I: Inline> Reader for TextReader<'_, '_, I> {
             None
         }
     }
-}
-
-/// The events of a text: those of its front, and after them all others.
-pub(crate) fn after_front(
-    mut front: Vec<Event>,
-    mut body: Vec<Event>,
-) -> Result<Vec<Event>, Message>
-    ensures { IfOk result (λ events. events.items ≡ front.items ++ body.items) }
-{
-    if front.is_empty() {
-        return Ok(body);
-    }
-    if front.append(&mut body).is_err() {
-        return Err(Message);
-    }
-    Ok(front)
 }
 
 /// A layer, and what is known of the document whose text parts it reads.
@@ -304,26 +287,22 @@ fn read_placed<'x, I: Inline>(
     read_each(alloc, &parts, events)
 }
 
-/// The events of a text: those of its front, and the others with what the layer reads in the places of the text parts.
+/// The events of a text with what the layer reads in the places of the text parts.
 ///
 /// An `Err` says that memory ran out.
 pub fn read_text_parts<'x, I: Inline>(
     alloc: Global,
     inline: &'x I,
     state: &'x ParseState,
-    front: Vec<Event>,
-    body: Vec<Event>,
+    events: Vec<Event>,
 ) -> Result<Vec<Event>, Message>
-    requires are { AreBlocks (document_of state.now) (front.items ++ body.items) }
-    requires front { list_all (stays wants_text) front.items ≡ true }
-    requires placed { ArePlaced state.now.bytes.now body.items }
+    requires are { AreBlocks (document_of state.now) events.items }
+    requires placed { ArePlaced state.now.bytes.now events.items }
     ensures { let reads = text_readings (I.reads inline.now (document_of state.now)) in
-        IfOk result (λ all. Substituted wants_text reads [] 0 (front.items ++ body.items) all.items) }
+        IfOk result (λ all. Substituted wants_text reads [] 0 events.items all.items) }
 {
     if inline.is_plain() {
-        let read = subtokenize(alloc, &TextReader { inline, state }, body)?;
-        return after_front(front, read);
+        return subtokenize(alloc, &TextReader { inline, state }, events);
     }
-    let events = after_front(front, body)?;
     read_placed(alloc, inline, state, events)
 }

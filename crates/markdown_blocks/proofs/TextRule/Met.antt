@@ -81,6 +81,10 @@ record EndsAt (all : List Row) (feed : Feed) (p : Point) : Type 0 where
 last-left : (options : ParseOptions) (source : List ℕ) (all passed : List Row) (row : Row) (rows : List Row) →
     AreLeft options source all → all ≡ passed ++ row ∷ rows → AreLeft options source (row ∷ rows)
 last-left options source all passed row rows is e = record {
+  from = is.from;
+  placed = is.placed;
+  whole = is.whole;
+  column = is.column;
   front = is.front;
   back = is.back;
   passed = is.passed ++ passed;

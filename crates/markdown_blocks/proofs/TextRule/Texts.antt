@@ -1,5 +1,5 @@
 -- The lines of a text of a document are read by their cells.
-use Rattle.std.proofs.Common.{◌≡◌, ◌≢◌, ◌⊎◌, inl, inr, ℕ, ◌^◌, ◌<◌, Bool, true, false, cond, List, [], ◌∷◌, ◌++◌, length}
+use Rattle.std.proofs.Common.{◌≡◌, ◌≢◌, ℕ, ◌-◌, ◌^◌, ◌<◌, ◌≤◌, Bool, true, false, cond, List, [], ◌∷◌, ◌++◌, length}
 use Rattle.std.proofs.Common.{refl, sym, ap, ap₂, ◌∙◌, subst, subst₂, append-nil, append_assoc, drop}
 use Rattle.std.specs.List.{list_all}
 use Rattle.std.proofs.lemmas.Bool.{and_parts}
@@ -11,23 +11,23 @@ use Rattle.md_engine.specs.TextFeed.{text_feed}
 use Rattle.md_engine.specs.World.{World}
 use Rattle.md_content.specs.ContentReads.{part_world}
 use Rattle.md_events.specs.declared.inline.Chunk.{Chunk}
-use Rattle.md_events.specs.Events.Places.{past_text}
-use Rattle.md_events.specs.Exact.Blocks.{grouped}
-use Rattle.md_events.specs.Exact.Places.{TextLine, line_end, lines_from, next_line, place}
+use Rattle.md_events.specs.Events.Places.{is_placed, past_text}
+use Rattle.md_events.proofs.PlacesLemmas.{placed-facts}
+use Rattle.md_events.specs.Exact.Places.{line_end, lines_from, next_line, place}
 use Rattle.proof_exact_pieces.proofs.OnLine.{place-on}
 use Rattle.md_events.specs.Exact.Rows.{AfterCode, First, Further, Head, Role, Row, Underline}
-use Rattle.md_events.specs.Exact.Rows.{rows_of as exact_rows}
+use Rattle.md_meaning.specs.Lines.{full_lines_of}
 use Rattle.md_meaning.specs.State.{Leaf, NoLeaf, OpenCode, OpenParagraph}
 use Rattle.md_meaning.specs.Rest.{Rest, is_blank}
 use Rattle.markdown_blocks.specs.TextMet.{chunks_of, lines_begin}
 use Rattle.markdown_blocks.specs.TextRule.{AreLeft, cells_of, is_text}
-use Rattle.markdown_blocks.specs.TextsRead.{AreHeadRead, IsUnderline, body_groups}
+use Rattle.markdown_blocks.specs.TextsRead.{AreHeadRead, IsUnderline, groups_from}
+use Rattle.markdown_blocks.proofs.PartBegins.{line-at}
 use Rattle.markdown_blocks.proofs.TextRule.Lines.{AreFilled, AreNext, cells-are}
 use Rattle.markdown_blocks.proofs.TextsRead.{UnderText, head-read, leaf-parts, under-text}
 use Rattle.md_registry.specs.Registry.{leaf, trials}
 use Rattle.proof_exact.proofs.BlocksSame.{following-put}
 use Rattle.proof_exact.proofs.CutTexts.{along-are}
-use Rattle.proof_exact.proofs.ExactIs.{body_lines}
 use Rattle.proof_exact.proofs.Fit.{Fit}
 use Rattle.proof_exact.proofs.FitLines.{IsTextRole, text-role}
 use Rattle.proof_exact.proofs.Fronts.{lines-front, row_with}
@@ -37,7 +37,6 @@ use Rattle.proof_exact.proofs.LinesExact.{BeginsLine, are-rows, lines-match, not
 use Rattle.proof_exact.proofs.Put.{AllGo, AllPut, ArePut, IsPut, rows-put}
 use Rattle.proof_exact.proofs.RowRoles.{following_code, in_code, row_role_by}
 use Rattle.proof_exact.proofs.TextGroups.{WithLast, are-text, texts-at, with-last}
-use Rattle.proof_exact.proofs.TextLines.{BodyLines, body-lines}
 use Rattle.proof_content_laws.proofs.Defined.Along.{Turn}
 use Rattle.proof_content_laws.proofs.Defined.Takes.{Walk}
 use Rattle.proof_exact_lines.proofs.Along.{Along, row-place}
@@ -402,29 +401,21 @@ groups-known options bytes (LeafLines r rs ∷ gs) ess are match put =
     others : EachRow IsOther (r ∷ rs)
     others = span-other options bytes r rs are.0
 
--- Those of the body of a document.
-body-known : (options : ParseOptions) (bytes : List ℕ) → IsWithoutMdx options → length bytes < 2 ^ 61 →
-    Each options bytes (body_groups options bytes)
-body-known options bytes built small = go (body-lines options bytes)
-  where
-    Are : List TextLine → Type 0
-    Are lines = Each options bytes (grouped (exact_rows options no_path lines))
-
-    go : (body_lines options bytes ≡ []) ⊎ BodyLines options bytes → Are (body_lines options bytes)
-    go (inl none) = subst Are (sym none) tt
-    go (inr is) =
-        let left = is.left in
-        let at : BeginsLine bytes left.number left.index left.column left.fulls =
-        record { are = left.are; placed = left.placed } in
-        let p : Point = begin left.number left.index left.column in
-        let rows : List FrameRow = text_rows options bytes p in
-        subst Are (sym left.is)
-        (groups-known options bytes (groups rows) _
-        (groups-are options bytes [] held_leaf.None p (split_lines (drop left.index bytes)) rows (refl, refl)
-        (are-rows options bytes built small left.number left.index left.column left.fulls at)
-        (lines-quiet options bytes built small left.number left.index left.column left.fulls at))
-        (lines-match options bytes built small left.number left.index left.column left.fulls at)
-        (rows-put options no_path (lines_from left.number left.index left.column left.fulls)))
+-- Those of the lines from a point on.
+from-known : (options : ParseOptions) (bytes : List ℕ) (p : Point) → IsWithoutMdx options → length bytes < 2 ^ 61 →
+    is_placed bytes p ≡ true → p.vs ≡ 0 → 1 ≤ p.column → Each options bytes (groups_from options bytes p)
+from-known options bytes p built small placed whole column =
+    let fulls : List (List ℕ) = full_lines_of (drop p.index bytes) in
+    let at : BeginsLine bytes p.line p.index (p.column - 1) fulls =
+    line-at bytes p (placed-facts bytes p placed) whole column in
+    let q : Point = begin p.line p.index (p.column - 1) in
+    let rows : List FrameRow = text_rows options bytes q in
+    groups-known options bytes (groups rows) (groups_from options bytes p)
+    (groups-are options bytes [] held_leaf.None q (split_lines (drop p.index bytes)) rows (refl, refl)
+    (are-rows options bytes built small p.line p.index (p.column - 1) fulls at)
+    (lines-quiet options bytes built small p.line p.index (p.column - 1) fulls at))
+    (lines-match options bytes built small p.line p.index (p.column - 1) fulls at)
+    (rows-put options no_path (lines_from p.line p.index (p.column - 1) fulls))
 
 -- one of them
 each-at : (options : ParseOptions) (bytes : List ℕ) (front : List (List Row)) (rows : List Row)
@@ -497,7 +488,7 @@ left-known : (options : ParseOptions) (bytes : List ℕ) → IsWithoutMdx option
 left-known options bytes built small row rows is =
     go
     (each-at options bytes is.front (is.passed ++ ((row ∷ rows) ++ is.under)) is.back
-    (subst (Each options bytes) is.groups (body-known options bytes built small)))
+    (subst (Each options bytes) is.groups (from-known options bytes is.from built small is.placed is.whole is.column)))
   where
     go : GroupIs options bytes (is.passed ++ ((row ∷ rows) ++ is.under)) → KnownLines options bytes row rows
     go (OtherLines other) =

@@ -5,5 +5,5 @@ use Rattle.markdown_blocks.proofs.parser.read_texts.Goals as goal
 
 pub returns-clause-texts : goal.returns-clause-texts
 returns-clause-texts c =
-    texts_of (world c.args.tokenizer.now) _ (world c.read_content.new.tokenizer)
-    c.requires.built (omega (arith, c.requires.small)) c.requires.lines c.in_ok-read.ensures.content
+    texts_of c.args._start (world c.args.tokenizer.now) _ (world c.read_content.new.tokenizer)
+    c.requires.built (omega (arith, c.requires.small)) c.requires.begins c.requires.lines c.in_ok-read.ensures.content

@@ -1,39 +1,65 @@
-use Rattle.std.proofs.Common.{◌≡◌, ℕ, List, ap, arith, length, refl, ◌∙◌}
+use Rattle.std.proofs.Common.{◌≡◌, ℕ, List, ap, arith, length, refl, subst, sym, ◌∙◌}
 use Rattle.std.specs.List.{prefix_len}
 use Rattle.md_engine.specs.Found.{found_in}
 use Rattle.md_engine.specs.World.{World, fresh, world}
 use Rattle.md_engine.specs.declared.event.Event.{Event}
-use Rattle.md_engine.specs.declared.event.Point.{Point}
-use Rattle.proof_rows.proofs.TextAre.{MayBegin}
 use Rattle.markdown_blocks.specs.Alone.{stays_by_name}
+use Rattle.markdown_blocks.specs.Parsed.{IsSmall, IsWithoutMdx}
 use Rattle.markdown_blocks.specs.PartRead.{BeginsPart}
 use Rattle.markdown_blocks.proofs.ContentAre.{joined-set}
-use Rattle.markdown_blocks.proofs.FlowReads.{FlowFlushed, flow-flushed-from, flow-reads}
+use Rattle.markdown_blocks.proofs.FlowReads.{FlowFlushed, flow-flushed-from, flow-reads, flushed-events}
 use Rattle.markdown_blocks.proofs.FlowReads.{flushed-side}
+use Rattle.markdown_blocks.proofs.PartBegins.{part-may}
 use Rattle.markdown_blocks.proofs.StaysAlone.{stay-alone}
+use Rattle.markdown_blocks.proofs.TextsRead.{flow-read}
 use Rattle.markdown_blocks.proofs.parts.set_lines.Goals as goal
 
-may : (bytes : List ℕ) (p : Point) → BeginsPart bytes p → MayBegin bytes p
-may bytes p begins = record { index = begins.placed.index; vs = begins.whole; column = begins.column }
-
-pub read_content-requires-clause-side : goal.read_content-requires-clause-side
-read_content-requires-clause-side c =
+pub read_texts-requires-clause-side : goal.read_texts-requires-clause-side
+read_texts-requires-clause-side c =
     flushed-side c.args.bytes.now c.args.options.now c.args.start
     (fresh c.args.bytes.now c.args.options.now c.args.start) (length c.args.bytes.now) _ _ _ _ refl refl
     (omega (arith, c.requires.small)) c.requires.runs c.in_ok-flush.ensures
 
-pub read_content-requires-clause-known : goal.read_content-requires-clause-known
-read_content-requires-clause-known c =
+pub read_texts-requires-clause-known : goal.read_texts-requires-clause-known
+read_texts-requires-clause-known c =
     let w : World = world c.flush.new.tokenizer in
     let is : c.until_changed-same.result ≡ prefix_len stays_by_name w.events =
     c.until_changed-same.ensures.value ∙ ap (λ (es : List Event). prefix_len stays_by_name es) c.deref.ensures.value in
     omega (arith, is, stay-alone w.events)
 
+pub read_texts-requires-clause-built : goal.read_texts-requires-clause-built
+read_texts-requires-clause-built c =
+    let are = flushed-events c.args.bytes.now c.args.options.now c.args.start
+    (fresh c.args.bytes.now c.args.options.now c.args.start) (length c.args.bytes.now) _ _ _ _ refl refl
+    (omega (arith, c.requires.small)) c.requires.runs c.in_ok-flush.ensures in
+    subst IsWithoutMdx (sym are.options_are) c.requires.built
+
+pub read_texts-requires-clause-small : goal.read_texts-requires-clause-small
+read_texts-requires-clause-small c =
+    let are = flushed-events c.args.bytes.now c.args.options.now c.args.start
+    (fresh c.args.bytes.now c.args.options.now c.args.start) (length c.args.bytes.now) _ _ _ _ refl refl
+    (omega (arith, c.requires.small)) c.requires.runs c.in_ok-flush.ensures in
+    subst IsSmall (sym are.bytes_are) c.requires.small
+
+pub read_texts-requires-clause-begins : goal.read_texts-requires-clause-begins
+read_texts-requires-clause-begins c =
+    let are = flushed-events c.args.bytes.now c.args.options.now c.args.start
+    (fresh c.args.bytes.now c.args.options.now c.args.start) (length c.args.bytes.now) _ _ _ _ refl refl
+    (omega (arith, c.requires.small)) c.requires.runs c.in_ok-flush.ensures in
+    subst (λ (l : List ℕ). BeginsPart l c.args.start) (sym are.bytes_are) c.requires.begins
+
+pub read_texts-requires-clause-lines : goal.read_texts-requires-clause-lines
+read_texts-requires-clause-lines c =
+    flow-read c.args.options.now c.args.bytes.now c.args.start (world c.flush.new.tokenizer)
+    (flushed-events c.args.bytes.now c.args.options.now c.args.start
+    (fresh c.args.bytes.now c.args.options.now c.args.start) (length c.args.bytes.now) _ _ _ _ refl refl
+    (omega (arith, c.requires.small)) c.requires.runs c.in_ok-flush.ensures)
+
 pub resolve_blocks-requires-clause-may : goal.resolve_blocks-requires-clause-may
 resolve_blocks-requires-clause-may c =
     (joined-set c.args.options.now c.args.bytes.now c.args.start c.requires.built (omega (arith, c.requires.small))
-    (found_in c.in_ok-found.found) (world c.read_content.new.tokenizer)
-    (may c.args.bytes.now c.args.start c.requires.begins)
+    (found_in c.in_ok-found.found) (world c.read_texts.new.tokenizer)
+    (part-may c.args.bytes.now c.args.start c.requires.begins)
     (flow-flushed-from c.args.bytes.now c.args.options.now c.args.start
     (fresh c.args.bytes.now c.args.options.now c.args.start) (length c.args.bytes.now) _ _ _ _ _ _ refl refl
     (omega (arith, c.requires.small)) c.requires.runs c.in_ok-flush.ensures
@@ -41,7 +67,7 @@ resolve_blocks-requires-clause-may c =
 
 pub returns : goal.returns
 returns c =
-    let items : World = world c.read_content.new.tokenizer in
+    let items : World = world c.read_texts.new.tokenizer in
     let flushed : FlowFlushed c.args.bytes.now c.args.options.now c.args.start (found_in c.in_ok-found.found) items =
     flow-flushed-from c.args.bytes.now c.args.options.now c.args.start
     (fresh c.args.bytes.now c.args.options.now c.args.start) (length c.args.bytes.now) _ _ _ _ _ _ refl refl
@@ -49,5 +75,5 @@ returns c =
     c.in_ok-found.ensures.content in
     flow-reads c.args.bytes.now c.args.options.now c.args.start _ _ _ flushed
     (joined-set c.args.options.now c.args.bytes.now c.args.start c.requires.built (omega (arith, c.requires.small)) _
-    items (may c.args.bytes.now c.args.start c.requires.begins) flushed)
+    items (part-may c.args.bytes.now c.args.start c.requires.begins) flushed)
     c.in_ok-resolve_blocks.ensures

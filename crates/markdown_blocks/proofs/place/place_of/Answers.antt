@@ -12,7 +12,7 @@ pub returns-in-Some : goal.returns-in-Some
 returns-in-Some c =
     let document : Document = document_of c.args.state.now in
     let part : Part = record { kind = c.args.kind; chunks = c.args.chunks.now } in
-    let blocks : List Event = c.in_ok-blocks.blocks.items in
+    let blocks : List Event = c.in_ok-blocks.blocks.events.items in
     let built : IsWithoutMdx document.options = c.is_without_mdx.ensures (search rules) in
     let here : IsPartAt blocks part c.in-Some.place =
     subst (λ (l : List Event). IsPartAt l part c.in-Some.place) c.deref.ensures.value c.in-Some.ensures in

@@ -1,0 +1,8 @@
+use Rattle.markdown_blocks.proofs.AllBlocks.{IsBefore, bytes_left}
+use Rattle.markdown_blocks.proofs.blocks.read_blocks.Given as goal
+
+abbrev pub invariant-loop-next : goal.invariant-loop-next
+invariant-loop-next l = IsBefore l.options l.text l.all l.next
+
+abbrev pub decreases-loop-next : goal.decreases-loop-next
+decreases-loop-next l = bytes_left l.text l.next
