@@ -1,15 +1,17 @@
 -- Bytes of text in a line, up to a byte that is neither whitespace nor the end of the line.
 use Rattle.std.proofs.Common.{◌≡◌, ℕ, zero, suc, ◌+◌, ◌-◌, ◌<◌, ◌≤◌, Bool, true, false, cond, List, [], ◌∷◌, length}
-use Rattle.std.proofs.Common.{take, drop, get_or, refl, ap, sym, ◌∙◌, arith}
+use Rattle.std.proofs.Common.{take, drop, get_or, refl, ap, sym, subst, ◌∙◌, arith, eqb}
 use Rattle.std.specs.Prelude.{◌&&◌, ◌||◌, ◌==◌, not, nat_eq, nat_lt}
 use Rattle.std.specs.List.{prefix_len}
 use Rattle.std.proofs.lemmas.Bool.{and_parts}
 use Rattle.std.proofs.lemmas.Bool.Decides.{nat_tests}
-use Rattle.std.proofs.lemmas.List.{drop-drop, get_or-drop, get_or-take, length-drop, length-take}
-use Rattle.std.proofs.lemmas.List.Sums.{prefix_len-le-length, prefix_len_passes, prefix_len_stops}
+use Rattle.std.proofs.lemmas.List.{drop-drop, get_or-drop, get_or-take, length-drop, length-map, length-take, length-take-le}
 use Rattle.md_meaning.specs.Rest.{is_white}
 use Rattle.md_inlines.specs.Breaks.{ends_here, trailing_len}
-use Rattle.markdown_inlines.specs.Plain.{begins_text, is_inner, is_plain, is_quiet, line_end}
+use Rattle.markdown_inlines.specs.Plain.{begins_text, inner_len, is_inner, is_inner_by, is_plain, is_quiet, line_end}
+use Rattle.markdown_inlines.proofs.LaneLemmas.{firsts, lowest-fails, of-pairs, pairs}
+use lib.Count.{count_trailing_zeros}
+use lib.Lanes.{mask_l, zip2}
 use Rattle.markdown_inlines.proofs.PlainLemmas.{dark-trailing}
 
 -- a byte that is neither whitespace nor the end of a line
@@ -17,27 +19,155 @@ pub record IsDark (b : ℕ) : Type 0 where
   pub dark : is_white b ≡ false
   pub goes : (b == 10) ≡ false
 
-inner-first : (literals : Bool) (b m : ℕ) (text : List ℕ) → suc m ≤ prefix_len (is_inner literals) (b ∷ text) →
-    (is_inner literals b ≡ true) × (m ≤ prefix_len (is_inner literals) text)
-inner-first literals b m text h = go (is_inner literals b) h
+inner-first : (literals : Bool) (b m : ℕ) (text : List ℕ) → suc m ≤ inner_len literals (b ∷ text) →
+    (is_inner literals (b ∷ text) ≡ true) × (m ≤ inner_len literals text)
+inner-first literals b m text h = go (is_inner literals (b ∷ text)) h
   where
-    go : (t : Bool) → suc m ≤ cond t (1 + prefix_len (is_inner literals) text) 0 →
-        (t ≡ true) × (m ≤ prefix_len (is_inner literals) text)
+    go : (t : Bool) → suc m ≤ cond t (1 + inner_len literals text) 0 → (t ≡ true) × (m ≤ inner_len literals text)
     go true h = (refl, omega (arith, h))
     go false h = absurd (omega (arith, h))
 
-inner-goes : (literals : Bool) (b : ℕ) → is_inner literals b ≡ true → (b == 10) ≡ false
-inner-goes literals b h = go (b == 10) (and_parts (not (b == 10)) (is_plain literals b) h).0
+inner-goes : (literals : Bool) (b : ℕ) (text : List ℕ) → is_inner literals (b ∷ text) ≡ true → (b == 10) ≡ false
+inner-goes literals b text h =
+    go (b == 10) (and_parts (not (b == 10)) ((literals && is_quiet (b ∷ text)) || is_plain literals b) h).0
   where
     go : (t : Bool) → not t ≡ true → t ≡ false
     go true h = cc
     go false h = refl
 
-inner-plain : (literals : Bool) (b : ℕ) → is_inner literals b ≡ true → is_plain literals b ≡ true
-inner-plain literals b h = (and_parts (not (b == 10)) (is_plain literals b) h).1
+inner-begins : (literals : Bool) (b : ℕ) (text : List ℕ) → is_inner literals (b ∷ text) ≡ true →
+    (is_plain literals b || is_quiet (b ∷ text)) ≡ true
+inner-begins literals b text h =
+    go literals (is_quiet (b ∷ text)) (is_plain literals b)
+    (and_parts (not (b == 10)) ((literals && is_quiet (b ∷ text)) || is_plain literals b) h).1
+  where
+    go : (l q p : Bool) → ((l && q) || p) ≡ true → (p || q) ≡ true
+    go l q true h = refl
+    go true true false h = refl
+    go true false false h = cc
+    go false q false h = cc
+
+-- as many bytes as are at the front are inner ones, and the next is none
+pub inner-within : (literals : Bool) (text : List ℕ) → inner_len literals text ≤ length text
+inner-within literals [] = omega arith
+inner-within literals (b ∷ text) = go (is_inner literals (b ∷ text)) (inner-within literals text)
+  where
+    go : (t : Bool) → inner_len literals text ≤ length text → cond t (1 + inner_len literals text) 0 ≤ suc (length text)
+    go true h = omega (arith, h)
+    go false h = omega arith
+
+inner-passes : (literals : Bool) (text : List ℕ) (k : ℕ) → k < inner_len literals text → (get_or text k 0 == 10) ≡ false
+inner-passes literals [] k h = absurd (omega (arith, h))
+inner-passes literals (b ∷ text) zero h = inner-goes literals b text (inner-first literals b 0 text (omega (arith, h))).0
+inner-passes literals (b ∷ text) (suc k) h =
+    inner-passes literals text k
+    (let more = (inner-first literals b (suc k) text (omega (arith, h))).1 in omega (arith, more))
+
+inner-stops : (literals : Bool) (text : List ℕ) → inner_len literals text < length text →
+    is_inner literals (drop (inner_len literals text) text) ≡ false
+inner-stops literals [] h = absurd (omega (arith, h))
+inner-stops literals (b ∷ text) h = go (is_inner literals (b ∷ text)) refl h (inner-stops literals text)
+  where
+    go : (t : Bool) → is_inner literals (b ∷ text) ≡ t → cond t (1 + inner_len literals text) 0 < suc (length text) →
+        (inner_len literals text < length text → is_inner literals (drop (inner_len literals text) text) ≡ false) →
+        is_inner literals (drop (cond t (1 + inner_len literals text) 0) (b ∷ text)) ≡ false
+    go true e h more =
+        let next : 1 + inner_len literals text ≡ suc (inner_len literals text) = omega arith in
+        ap (λ (n : ℕ). is_inner literals (drop n (b ∷ text))) next ∙ more (omega (arith, h))
+    go false e h more = e
+
+-- those after some of them
+pub inner-after : (literals : Bool) (text : List ℕ) (at : ℕ) → at ≤ inner_len literals text →
+    at + inner_len literals (drop at text) ≡ inner_len literals text
+inner-after literals text zero le = omega arith
+inner-after literals [] (suc at) le = absurd (omega (arith, le))
+inner-after literals (b ∷ text) (suc at) le =
+    go (is_inner literals (b ∷ text)) (inner-after literals text at) le
+  where
+    go : (t : Bool) → (at ≤ inner_len literals text →
+        at + inner_len literals (drop at text) ≡ inner_len literals text) →
+        suc at ≤ cond t (1 + inner_len literals text) 0 →
+        suc at + inner_len literals (drop at text) ≡ cond t (1 + inner_len literals text) 0
+    go true more le = let rest = more (omega (arith, le)) in omega (arith, rest)
+    go false more le = absurd (omega (arith, le))
+
+pub inner-further : (literals : Bool) (text : List ℕ) (at n : ℕ) →
+    at + inner_len literals (drop at text) ≡ inner_len literals text →
+    n + inner_len literals (drop n (drop at text)) ≡ inner_len literals (drop at text) →
+    at + n + inner_len literals (drop (at + n) text) ≡ inner_len literals text
+inner-further literals text at n front more =
+    let same = ap (inner_len literals) (drop-drop n at text) in omega (arith, front, more, same)
+
+-- one more, or none
+pub inner-next : (literals : Bool) (text : List ℕ) → is_inner literals text ≡ true →
+    1 + inner_len literals (drop 1 text) ≡ inner_len literals text
+inner-next literals [] h = cc
+inner-next literals (b ∷ text) h = sym (ap (λ (t : Bool). cond t (1 + inner_len literals text) 0) h)
+
+pub inner-none : (literals : Bool) (text : List ℕ) → is_inner literals text ≡ false → inner_len literals text ≡ 0
+inner-none literals [] h = refl
+inner-none literals (b ∷ text) h = ap (λ (t : Bool). cond t (1 + inner_len literals text) 0) h
+
+-- of so many in front, each with the byte after it
+pub inner-pairs : (literals : Bool) (n : ℕ) (text : List ℕ) → n < length text →
+    let front = prefix_len (λ (q : ℕ × ℕ). is_inner_by literals q.0 q.1) (pairs (take n text) (take n (drop 1 text))) in
+    (front < n → front ≡ inner_len literals text)
+    × (n ≤ front → n + inner_len literals (drop n text) ≡ inner_len literals text)
+inner-pairs literals zero text long = (λ lt. absurd (omega (arith, lt)), λ le. omega arith)
+inner-pairs literals (suc n) [] long = absurd (omega (arith, long))
+inner-pairs literals (suc n) (b ∷ []) long = absurd (omega (arith, long))
+inner-pairs literals (suc n) (b ∷ c ∷ text) long =
+    go (is_inner_by literals b c) (inner-pairs literals n (c ∷ text) (omega (arith, long)))
+  where
+    front : ℕ
+    front =
+        prefix_len (λ (q : ℕ × ℕ). is_inner_by literals q.0 q.1)
+        (pairs (take n (c ∷ text)) (take n (drop 1 (c ∷ text))))
+
+    go : (t : Bool) →
+        (front < n → front ≡ inner_len literals (c ∷ text))
+        × (n ≤ front → n + inner_len literals (drop n (c ∷ text)) ≡ inner_len literals (c ∷ text)) →
+        (cond t (1 + front) 0 < suc n → cond t (1 + front) 0 ≡ cond t (1 + inner_len literals (c ∷ text)) 0)
+        × (suc n ≤ cond t (1 + front) 0 →
+        suc n + inner_len literals (drop n (c ∷ text)) ≡ cond t (1 + inner_len literals (c ∷ text)) 0)
+    go true more = (
+      λ lt. let rest = more.0 (omega (arith, lt)) in omega (arith, rest),
+      λ le. let rest = more.1 (omega (arith, le)) in omega (arith, rest),
+    )
+    go false more = (λ lt. refl, λ le. absurd (omega (arith, le)))
+
+pub inner-sixteen : (literals : Bool) (text : List ℕ) (mask r : ℕ) → 17 ≤ length text →
+    mask ≡ mask_l (zip2 (λ b c. not (is_inner_by literals b c)) (take 16 text) (take 16 (drop 1 text))) →
+    r ≡ cond (eqb mask 0) 16 (count_trailing_zeros 64 mask) →
+    (r < 16 → r ≡ inner_len literals text)
+    × (16 ≤ r → 16 + inner_len literals (drop 16 text) ≡ inner_len literals text)
+inner-sixteen literals text mask r long e is =
+    let all = inner-pairs literals 16 text (omega (arith, long)) in (
+      λ lt. front ∙ all.0 (omega (arith, front, lt)),
+      λ le. all.1 (omega (arith, front, le)),
+    )
+  where
+    qs : List (ℕ × ℕ)
+    qs = pairs (take 16 text) (take 16 (drop 1 text))
+
+    own : length (take 16 text) ≡ 16
+    own = length-take-le 16 text (omega (arith, long))
+
+    next : length (take 16 (drop 1 text)) ≡ 16
+    next = length-take-le 16 (drop 1 text) (let size = length-drop 1 text in omega (arith, size, long))
+
+    many : length qs ≡ 16
+    many =
+        sym (length-map qs (λ (q : ℕ × ℕ). q.0))
+        ∙ ap length (firsts (take 16 text) (take 16 (drop 1 text)) (own ∙ sym next)) ∙ own
+
+    front : r ≡ prefix_len (λ (q : ℕ × ℕ). is_inner_by literals q.0 q.1) qs
+    front =
+        lowest-fails (λ (q : ℕ × ℕ). is_inner_by literals q.0 q.1) qs 16 mask r many (omega arith)
+        (e ∙ ap mask_l (of-pairs (λ b c. not (is_inner_by literals b c)) (take 16 text) (take 16 (drop 1 text)))) is
 
 -- no line ends after the whitespace at the front
-ahead : (literals : Bool) (m : ℕ) (text : List ℕ) → m ≤ prefix_len (is_inner literals) text → m < length text →
+ahead : (literals : Bool) (m : ℕ) (text : List ℕ) → m ≤ inner_len literals text → m < length text →
     IsDark (get_or text m 0) → ends_here (drop (prefix_len is_white text) text) ≡ false
 ahead literals m [] run short d = absurd (omega (arith, short))
 ahead literals zero (b ∷ text) run short d =
@@ -47,7 +177,7 @@ ahead literals zero (b ∷ text) run short d =
 ahead literals (suc m) (b ∷ text) run short d =
     go (is_white b) refl (ahead literals m text inner.1 (omega (arith, short)) d)
   where
-    inner : (is_inner literals b ≡ true) × (m ≤ prefix_len (is_inner literals) text)
+    inner : (is_inner literals (b ∷ text) ≡ true) × (m ≤ inner_len literals text)
     inner = inner-first literals b m text run
 
     go : (t : Bool) → is_white b ≡ t → ends_here (drop (prefix_len is_white text) text) ≡ false →
@@ -58,22 +188,22 @@ ahead literals (suc m) (b ∷ text) run short d =
         ap (λ (k : ℕ). ends_here (drop k (b ∷ text))) more ∙ rest
     go false e rest =
         let none : prefix_len is_white (b ∷ text) ≡ 0 = rw e refl in
-        ap (λ (k : ℕ). ends_here (drop k (b ∷ text))) none ∙ inner-goes literals b inner.0
+        ap (λ (k : ℕ). ends_here (drop k (b ∷ text))) none ∙ inner-goes literals b text inner.0
 
 none-trailing : (text : List ℕ) → ends_here (drop (prefix_len is_white text) text) ≡ false → trailing_len text ≡ 0
 unfolding trailing_len
 none-trailing text h = ap (λ (t : Bool). cond t (prefix_len is_white text) 0) h
 
 -- such a byte: each byte before it is text
-pub inner-text : (literals : Bool) (m k : ℕ) (text : List ℕ) → k ≤ m → k < prefix_len (is_inner literals) text →
-    m ≤ prefix_len (is_inner literals) text → m < length text → IsDark (get_or text m 0) →
+pub inner-text : (literals : Bool) (m k : ℕ) (text : List ℕ) → k ≤ m → k < inner_len literals text →
+    m ≤ inner_len literals text → m < length text → IsDark (get_or text m 0) →
     begins_text literals (drop k text) ≡ true
 inner-text literals m k [] within few run short d = absurd (omega (arith, short))
 inner-text literals m zero (b ∷ text) within few run short d =
-    let inner : (is_inner literals b ≡ true) × (0 ≤ prefix_len (is_inner literals) text) =
+    let inner : (is_inner literals (b ∷ text) ≡ true) × (0 ≤ inner_len literals text) =
     inner-first literals b 0 text (omega (arith, few)) in
     let zero : trailing_len (b ∷ text) ≡ 0 = none-trailing (b ∷ text) (ahead literals m (b ∷ text) run short d) in
-    ap (λ (t : Bool). (t || is_quiet (b ∷ text)) && (trailing_len (b ∷ text) == 0)) (inner-plain literals b inner.0)
+    ap (λ (t : Bool). t && (trailing_len (b ∷ text) == 0)) (inner-begins literals b text inner.0)
     ∙ ap (λ (n : ℕ). n == 0) zero
 inner-text literals zero (suc k) (b ∷ text) within few run short d = absurd (omega (arith, within))
 inner-text literals (suc m) (suc k) (b ∷ text) within few run short d =
@@ -82,11 +212,18 @@ inner-text literals (suc m) (suc k) (b ∷ text) within few run short d =
     (inner-first literals b m text run).1 (omega (arith, short)) d
 
 -- a byte that is no inner one, and ends no line
-pub stop-dark : (literals : Bool) (b : ℕ) → is_inner literals b ≡ false → (b == 10) ≡ false → IsDark b
-stop-dark literals b h goes = record { dark = go (is_white b) refl; goes = goes }
+pub stop-dark : (literals : Bool) (b : ℕ) (text : List ℕ) → is_inner literals (b ∷ text) ≡ false →
+    (b == 10) ≡ false → IsDark b
+stop-dark literals b text h goes = record { dark = go (is_white b) refl; goes = goes }
   where
+    neither : (x y : Bool) → (x || y) ≡ false → y ≡ false
+    neither true y e = cc
+    neither false y e = e
+
     plain : is_plain literals b ≡ false
-    plain = ap (λ (t : Bool). not t && is_plain literals b) (sym goes) ∙ h
+    plain =
+        neither (literals && is_quiet (b ∷ text)) (is_plain literals b)
+        (ap (λ (t : Bool). not t && ((literals && is_quiet (b ∷ text)) || is_plain literals b)) (sym goes) ∙ h)
 
     space : (l : Bool) → is_plain l 32 ≡ true
     space true = refl
@@ -138,17 +275,15 @@ texts-further literals text at len front after k few = go (nat_lt k at) refl
         ∙ after (k - at) (omega (arith, few, past))
 
 -- before whitespace at the end
-before-dark : (literals : Bool) (text line : List ℕ) (len dark : ℕ) → len ≡ prefix_len (is_inner literals) text →
+before-dark : (literals : Bool) (text line : List ℕ) (len dark : ℕ) → len ≡ inner_len literals text →
     line ≡ take len text → (0 < dark → is_white (get_or line (dark - 1) 0) ≡ false) → dark ≤ length line →
     (k : ℕ) → k < dark → begins_text literals (drop k text) ≡ true
 before-dark literals text line len dark long line_is last short k few =
     inner-text literals (dark - 1) k text (omega (arith, few)) (omega (arith, few, within, long))
-    (omega (arith, within, long)) (omega (arith, few, within, long, prefix_len-le-length (is_inner literals) text))
+    (omega (arith, within, long)) (omega (arith, few, within, long, inner-within literals text))
     (record {
       dark = ap is_white (sym here) ∙ last (omega (arith, few));
-      goes =
-          inner-goes literals (get_or text (dark - 1) 0)
-          (prefix_len_passes (is_inner literals) text (dark - 1) 0 (omega (arith, few, within, long)));
+      goes = inner-passes literals text (dark - 1) (omega (arith, few, within, long));
     })
   where
     within : dark ≤ len
@@ -161,7 +296,7 @@ before-dark literals text line len dark long line_is last short k few =
 
 -- a line, as a function reads it
 pub line-text : (literals : Bool) (text line rest : List ℕ) (len dark end : ℕ) →
-    len ≡ prefix_len (is_inner literals) text → line ≡ take len text → rest ≡ drop len text →
+    len ≡ inner_len literals text → line ≡ take len text → rest ≡ drop len text →
     (0 < dark → is_white (get_or line (dark - 1) 0) ≡ false) → dark ≤ length line → end ≡ line_end dark len rest →
     (k : ℕ) → k < end → begins_text literals (drop k text) ≡ true
 line-text literals text line rest len dark end long line_is rest_is last short end_is k few =
@@ -188,10 +323,10 @@ line-text literals text line rest len dark end long line_is rest_is last short e
             k < cond (not t) len (cond d (len + 1) dark) → begins_text literals (drop k text) ≡ true
         by false e d f few =
             inner-text literals len k text (omega (arith, few)) (omega (arith, few, long)) (omega (arith, long)) room
-            (stop-dark literals (get_or text len 0)
-            (ap (λ (n : ℕ). is_inner literals (get_or text n 0)) long
-            ∙ prefix_len_stops (is_inner literals) text 0 (omega (arith, room, long)))
-            (ap (λ (c : ℕ). c == 10) first ∙ e))
+            (subst IsDark (sym first)
+            (stop-dark literals b rest
+            (ap (is_inner literals) is ∙ ap (λ (n : ℕ). is_inner literals (drop n text)) long
+            ∙ inner-stops literals text (omega (arith, room, long))) e))
         by true e false f few = dark-text few
         by true e true f few = last-of (nat_lt k dark) refl
           where

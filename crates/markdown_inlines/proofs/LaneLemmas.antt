@@ -1,12 +1,12 @@
 -- Bytes that are compared at once are counted as one by one.
 use Rattle.std.proofs.Common.{◌≡◌, ℕ, zero, suc, ◌+◌, ◌-◌, ◌%◌, ◌^◌, ◌<◌, ◌≤◌, Bool, true, false, not, cond, eqb}
 use Rattle.std.proofs.Common.{nat_lt, ◌&&◌, List, [], ◌∷◌, map, length, take, drop, refl, ap, ◌∙◌, arith, w8}
-use Rattle.std.proofs.Common.{Fits, bit_or}
+use Rattle.std.proofs.Common.{Fits, ap₂, bit_and, bit_or, replicate, subst, sym}
 use Rattle.std.specs.List.{prefix_len}
-use Rattle.std.proofs.lemmas.Bool.{and_parts}
+use Rattle.std.proofs.lemmas.Bool.{and_parts, eqb-true}
 use Rattle.std.proofs.lemmas.Bool.Decides.{nat_tests}
 use Rattle.std.proofs.lemmas.List.{length-drop, length-map, take_all}
-use Rattle.std.proofs.lemmas.Simd.{first_set_mask_l, map-map, mask_l-mod, zip2_of_maps}
+use Rattle.std.proofs.lemmas.Simd.{first_set_mask_l, map-map, mask_l-mod, zip2_of_maps, zip2_splat}
 use lib.Count.{count_trailing_zeros}
 use lib.Lanes.{Each1, mask_l, top, zip2}
 
@@ -15,9 +15,13 @@ abbrev pub hit : ℕ → ℕ → ℕ
 hit a b = cond (eqb a b) 255 0
 
 -- what is computed lane by lane
-pub either : (f g : ℕ → ℕ) (v : List ℕ) {a b : List ℕ} → a ≡ map f v → b ≡ map g v →
+pub either : {V : Type 0} (f g : V → ℕ) (v : List V) {a b : List ℕ} → a ≡ map f v → b ≡ map g v →
     zip2 bit_or a b ≡ map (λ x. bit_or (f x) (g x)) v
 either f g v p q = zip2_of_maps bit_or f g v p q
+
+pub each : {V : Type 0} (f g : V → ℕ) (v : List V) {a b : List ℕ} → a ≡ map f v → b ≡ map g v →
+    zip2 bit_and a b ≡ map (λ x. bit_and (f x) (g x)) v
+each f g v p q = zip2_of_maps bit_and f g v p q
 
 -- a test of each number below one
 abbrev pub every : (ℕ → Bool) → ℕ → Bool
@@ -63,7 +67,7 @@ masked f p v z short fits e all =
     ap (λ (l : List Bool). mask_l l % 2 ^ 64) (ap (map (top 7)) e ∙ map-map (top 7) f v ∙ each-byte f p all v fits)
     ∙ mask_l-mod (map p v) 64 (omega (arith, length-map v p, short))
 
-twice-not : (p : ℕ → Bool) (v : List ℕ) → prefix_len (λ b. not (not (p b))) v ≡ prefix_len p v
+twice-not : {V : Type 0} (p : V → Bool) (v : List V) → prefix_len (λ b. not (not (p b))) v ≡ prefix_len p v
 twice-not p [] = refl
 twice-not p (b ∷ v) = go (p b) (twice-not p v)
   where
@@ -73,7 +77,7 @@ twice-not p (b ∷ v) = go (p b) (twice-not p v)
     go false rest = refl
 
 -- the lowest bit of the mask of bytes that fail
-pub lowest-fails : (p : ℕ → Bool) (v : List ℕ) (n mask r : ℕ) → length v ≡ n → n ≤ 64 →
+pub lowest-fails : {V : Type 0} (p : V → Bool) (v : List V) (n mask r : ℕ) → length v ≡ n → n ≤ 64 →
     mask ≡ mask_l (map (λ b. not (p b)) v) → r ≡ cond (eqb mask 0) n (count_trailing_zeros 64 mask) →
     r ≡ prefix_len p v
 lowest-fails p v n mask r long few e is =
@@ -82,60 +86,107 @@ lowest-fails p v n mask r long few e is =
     ∙ first_set_mask_l (λ b. not (p b)) v n long few
     ∙ twice-not p v
 
--- after some of the bytes that are counted, the others are
-counted-after : (p : ℕ → Bool) (bytes : List ℕ) (at : ℕ) → at ≤ prefix_len p bytes →
-    at + prefix_len p (drop at bytes) ≡ prefix_len p bytes
-counted-after p bytes zero le = omega arith
-counted-after p [] (suc at) le = absurd (omega (arith, le))
-counted-after p (b ∷ bytes) (suc at) le = go (p b) (counted-after p bytes at) le
-  where
-    go : (x : Bool) → (at ≤ prefix_len p bytes → at + prefix_len p (drop at bytes) ≡ prefix_len p bytes) →
-        suc at ≤ cond x (1 + prefix_len p bytes) 0 →
-        suc at + prefix_len p (drop at bytes) ≡ cond x (1 + prefix_len p bytes) 0
-    go true more le = let rest = more (omega (arith, le)) in omega (arith, rest)
-    go false more le = absurd (omega (arith, le))
+-- Pairs of lanes.
 
--- of so many bytes in front those are counted that are counted of all, as far as they reach
-counted-front : (p : ℕ → Bool) (bytes : List ℕ) (n : ℕ) →
-    let front = prefix_len p (take n bytes) in
-    (front < n → front ≡ prefix_len p bytes) × (n ≤ front → n ≤ prefix_len p bytes)
-counted-front p bytes zero = (λ lt. absurd (omega (arith, lt)), λ le. omega arith)
-counted-front p [] (suc n) = (λ lt. refl, λ le. absurd (omega (arith, le)))
-counted-front p (b ∷ bytes) (suc n) = go (p b) (counted-front p bytes n)
+abbrev pub pairs : List ℕ → List ℕ → List (ℕ × ℕ)
+pairs v w = zip2 (λ x y. (x, y)) v w
+
+pub firsts : (v w : List ℕ) → length v ≡ length w → map (λ (q : ℕ × ℕ). q.0) (pairs v w) ≡ v
+firsts [] w e = refl
+firsts (x ∷ v) [] e = absurd (omega (arith, e))
+firsts (x ∷ v) (y ∷ w) e = ap (λ (l : List ℕ). x ∷ l) (firsts v w (omega (arith, e)))
+
+pub seconds : (v w : List ℕ) → length v ≡ length w → map (λ (q : ℕ × ℕ). q.1) (pairs v w) ≡ w
+seconds [] [] e = refl
+seconds [] (y ∷ w) e = absurd (omega (arith, e))
+seconds (x ∷ v) [] e = absurd (omega (arith, e))
+seconds (x ∷ v) (y ∷ w) e = ap (λ (l : List ℕ). y ∷ l) (seconds v w (omega (arith, e)))
+
+pub of-pairs : (p : ℕ → ℕ → Bool) (v w : List ℕ) → zip2 p v w ≡ map (λ (q : ℕ × ℕ). p q.0 q.1) (pairs v w)
+of-pairs p [] w = refl
+of-pairs p (x ∷ v) [] = refl
+of-pairs p (x ∷ v) (y ∷ w) = ap (λ (l : List Bool). p x y ∷ l) (of-pairs p v w)
+
+-- where the first, or the second, is a number
+pub hits-first : (v w : List ℕ) (n y : ℕ) → length v ≡ n → length w ≡ n →
+    zip2 hit v (replicate n y) ≡ map (λ (q : ℕ × ℕ). hit q.0 y) (pairs v w)
+hits-first v w n y long wide =
+    zip2_splat hit v n y long
+    ∙ ap (map (λ (x : ℕ). hit x y)) (sym (firsts v w (long ∙ sym wide)))
+    ∙ map-map (λ (x : ℕ). hit x y) (λ (q : ℕ × ℕ). q.0) (pairs v w)
+
+pub hits-second : (v w : List ℕ) (n y : ℕ) → length v ≡ n → length w ≡ n →
+    zip2 hit w (replicate n y) ≡ map (λ (q : ℕ × ℕ). hit q.1 y) (pairs v w)
+hits-second v w n y long wide =
+    zip2_splat hit w n y wide
+    ∙ ap (map (λ (x : ℕ). hit x y)) (sym (seconds v w (long ∙ sym wide)))
+    ∙ map-map (λ (x : ℕ). hit x y) (λ (q : ℕ × ℕ). q.1) (pairs v w)
+
+-- a test of the first
+pub by-first : (p : ℕ → Bool) (v w : List ℕ) → length v ≡ length w → map p v ≡ zip2 (λ x y. p x) v w
+by-first p v w even =
+    ap (map p) (sym (firsts v w even)) ∙ map-map p (λ (q : ℕ × ℕ). q.0) (pairs v w)
+    ∙ sym (of-pairs (λ x y. p x) v w)
+
+-- all bits of a lane, or none
+abbrev pub lane : Bool → ℕ
+lane b = cond b 255 0
+
+-- a test of a byte, and two of the byte after it
+pub each-pair : (f : ℕ → ℕ → ℕ → ℕ) (g h : ℕ → ℕ) (p : ℕ → Bool → Bool → Bool) (t u : ℕ → Bool) →
+    every (λ y. eqb (g y) (lane (t y))) 256 ≡ true → every (λ y. eqb (h y) (lane (u y))) 256 ≡ true →
+    ((a b : Bool) → every (λ x. same (top 7 (f x (lane a) (lane b))) (p x a b)) 256 ≡ true) → (qs : List (ℕ × ℕ)) →
+    Each1 (Fits w8) (map (λ (q : ℕ × ℕ). q.0) qs) → Each1 (Fits w8) (map (λ (q : ℕ × ℕ). q.1) qs) →
+    map (λ (q : ℕ × ℕ). top 7 (f q.0 (g q.1) (h q.1))) qs ≡ map (λ (q : ℕ × ℕ). p q.0 (t q.1) (u q.1)) qs
+each-pair f g h p t u on_g on_h all [] first second = refl
+each-pair f g h p t u on_g on_h all (q ∷ qs) first second =
+    ap (λ (b : Bool). b ∷ map (λ (r : ℕ × ℕ). top 7 (f r.0 (g r.1) (h r.1))) qs) here
+    ∙ ap (λ (l : List Bool). p q.0 (t q.1) (u q.1) ∷ l)
+    (each-pair f g h p t u on_g on_h all qs first.1 second.1)
   where
-    go : (x : Bool) →
-        let front = prefix_len p (take n bytes) in
-        (front < n → front ≡ prefix_len p bytes) × (n ≤ front → n ≤ prefix_len p bytes) →
-        let all = cond x (1 + front) 0 in
-        (all < suc n → all ≡ cond x (1 + prefix_len p bytes) 0)
-        × (suc n ≤ all → suc n ≤ cond x (1 + prefix_len p bytes) 0)
-    go true more = (
-      λ lt. let rest = more.0 (omega (arith, lt)) in omega (arith, rest),
-      λ le. let rest = more.1 (omega (arith, le)) in omega (arith, rest),
-    )
-    go false more = (λ lt. refl, λ le. absurd (omega (arith, le)))
+    small : q.0 < 256
+    small = let fit = first.0.fits in omega (arith, fit)
+
+    next : q.1 < 256
+    next = let fit = second.0.fits in omega (arith, fit)
+
+    of_g : g q.1 ≡ lane (t q.1)
+    of_g = eqb-true (g q.1) (lane (t q.1)) (every-passes (λ y. eqb (g y) (lane (t y))) 256 q.1 on_g next)
+
+    of_h : h q.1 ≡ lane (u q.1)
+    of_h = eqb-true (h q.1) (lane (u q.1)) (every-passes (λ y. eqb (h y) (lane (u y))) 256 q.1 on_h next)
+
+    here : top 7 (f q.0 (g q.1) (h q.1)) ≡ p q.0 (t q.1) (u q.1)
+    here =
+        ap₂ (λ (m n : ℕ). top 7 (f q.0 m n)) of_g of_h
+        ∙ same-is (top 7 (f q.0 (lane (t q.1)) (lane (u q.1)))) (p q.0 (t q.1) (u q.1))
+        (every-passes (λ x. same (top 7 (f x (lane (t q.1)) (lane (u q.1)))) (p x (t q.1) (u q.1))) 256 q.0
+        (all (t q.1) (u q.1)) small)
+
+-- the mask of what is computed so
+pub masked-pairs : (f : ℕ → ℕ → ℕ → ℕ) (g h : ℕ → ℕ) (p : ℕ → Bool → Bool → Bool) (t u : ℕ → Bool) →
+    every (λ y. eqb (g y) (lane (t y))) 256 ≡ true → every (λ y. eqb (h y) (lane (u y))) 256 ≡ true →
+    ((a b : Bool) → every (λ x. same (top 7 (f x (lane a) (lane b))) (p x a b)) 256 ≡ true) → (v w z : List ℕ) →
+    length v ≡ 16 → length w ≡ 16 → Each1 (Fits w8) v → Each1 (Fits w8) w →
+    z ≡ map (λ (q : ℕ × ℕ). f q.0 (g q.1) (h q.1)) (pairs v w) →
+    mask_l (map (top 7) z) % 2 ^ 64 ≡ mask_l (zip2 (λ x y. p x (t y) (u y)) v w)
+masked-pairs f g h p t u on_g on_h all v w z long wide fit_v fit_w e =
+    ap (λ (l : List Bool). mask_l l % 2 ^ 64)
+    (ap (map (top 7)) e ∙ map-map (top 7) (λ (q : ℕ × ℕ). f q.0 (g q.1) (h q.1)) (pairs v w)
+    ∙ each-pair f g h p t u on_g on_h all (pairs v w) (subst (Each1 (Fits w8)) (sym (firsts v w even)) fit_v)
+    (subst (Each1 (Fits w8)) (sym (seconds v w even)) fit_w))
+    ∙ mask_l-mod (map (λ (q : ℕ × ℕ). p q.0 (t q.1) (u q.1)) (pairs v w)) 64 (omega (arith, many))
+    ∙ ap mask_l (sym (of-pairs (λ x y. p x (t y) (u y)) v w))
+  where
+    even : length v ≡ length w
+    even = long ∙ sym wide
+
+    many : length (map (λ (q : ℕ × ℕ). p q.0 (t q.1) (u q.1)) (pairs v w)) ≡ 16
+    many =
+        length-map (pairs v w) (λ (q : ℕ × ℕ). p q.0 (t q.1) (u q.1))
+        ∙ sym (length-map (pairs v w) (λ (q : ℕ × ℕ). q.0)) ∙ ap length (firsts v w even) ∙ long
 
 -- what is after so many bytes, as a slice
-slice-after : (bytes : List ℕ) (at : ℕ) → take (length bytes - at) (drop at bytes) ≡ drop at bytes
+pub slice-after : (bytes : List ℕ) (at : ℕ) → take (length bytes - at) (drop at bytes) ≡ drop at bytes
 slice-after bytes at =
     take_all (length bytes - at) (drop at bytes) (let size = length-drop at bytes in omega (arith, size))
-
--- the next bytes are counted after those that were counted: all of them, or up to one that fails
-pub counted-next : (p : ℕ → Bool) (bytes : List ℕ) (at n r : ℕ) → at ≤ prefix_len p bytes →
-    r ≡ prefix_len p (take n (take (length bytes - at) (drop at bytes))) →
-    (r < n → at + r ≡ prefix_len p bytes) × (n ≤ r → at + n ≤ prefix_len p bytes)
-counted-next p bytes at n r le is =
-    let same : r ≡ prefix_len p (take n (drop at bytes)) =
-    is ∙ ap (λ (rest : List ℕ). prefix_len p (take n rest)) (slice-after bytes at) in
-    let front = counted-front p (drop at bytes) n in
-    let all = counted-after p bytes at le in (
-      λ lt. let some = front.0 (omega (arith, same, lt)) in omega (arith, same, all, some),
-      λ ge. let more = front.1 (omega (arith, same, ge)) in omega (arith, all, more),
-    )
-
--- the others are counted one by one
-pub counted-others : (p : ℕ → Bool) (bytes : List ℕ) (at r : ℕ) → at ≤ prefix_len p bytes →
-    r ≡ prefix_len p (take (length bytes - at) (drop at bytes)) → at + r ≡ prefix_len p bytes
-counted-others p bytes at r le is =
-    let same : r ≡ prefix_len p (drop at bytes) = is ∙ ap (λ (rest : List ℕ). prefix_len p rest) (slice-after bytes at) in
-    omega (arith, same, counted-after p bytes at le)

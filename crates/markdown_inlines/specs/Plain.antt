@@ -10,10 +10,6 @@ abbrev pub is_plain : Bool → ℕ → Bool
 is_plain literals b =
     not (list_any (λ c. c == b) (codes "!$&*<[\\]_`~")) && not (literals && list_any (λ c. c == b) (codes "HWhw"))
 
--- whether it is one and ends no line
-abbrev pub is_inner : Bool → ℕ → Bool
-is_inner literals b = not (b == line_feed) && is_plain literals b
-
 -- How far text goes in a line. So many bytes are such ones, whitespace at their end is after `dark` of them, and these
 -- bytes follow.
 abbrev pub line_end : ℕ → ℕ → List ℕ → ℕ
@@ -31,6 +27,20 @@ abbrev pub is_quiet : List ℕ → Bool
 is_quiet [] = false
 is_quiet (b ∷ []) = false
 is_quiet (b ∷ c ∷ text) = differs b c
+
+-- whether the first of two bytes begins no address that is read, or nothing at all, and ends no line
+abbrev pub is_inner_by : Bool → ℕ → ℕ → Bool
+is_inner_by literals b c = not (b == line_feed) && ((literals && differs b c) || is_plain literals b)
+
+-- whether a text begins with such a byte
+abbrev pub is_inner : Bool → List ℕ → Bool
+is_inner literals [] = false
+is_inner literals (b ∷ text) = not (b == line_feed) && ((literals && is_quiet (b ∷ text)) || is_plain literals b)
+
+-- how many such bytes are at the front
+abbrev pub inner_len : Bool → List ℕ → ℕ
+inner_len literals [] = 0
+inner_len literals (b ∷ text) = if is_inner literals (b ∷ text) then 1 + inner_len literals text else 0
 
 -- whether a text begins with a byte of text
 abbrev pub begins_text : Bool → List ℕ → Bool

@@ -1,10 +1,9 @@
 // Bytes that begin nothing: text, taken many at once.
 
-ghost use Rattle.std.specs.Prelude.{◌≡◌, ℕ, ◌<◌, ◌≤◌, ◌+◌, ◌-◌, ◌^◌, ◌==◌, true, false, not, if◌then◌else◌, drop};
-ghost use Rattle.std.specs.Prelude.{get_or, length, map, take};
+ghost use Rattle.std.specs.Prelude.{◌≡◌, ℕ, ◌<◌, ◌≤◌, ◌+◌, ◌-◌, ◌^◌, ◌==◌, ◌&&◌, true, false, not, if◌then◌else◌, drop};
+ghost use Rattle.std.specs.Prelude.{get_or, length, map};
 ghost use Rattle.std.specs.Int.{trailing_zeros, w64};
-ghost use Rattle.std.specs.Simd.Lanes.{mask_l};
-ghost use Rattle.std.specs.List.{prefix_len};
+ghost use Rattle.std.specs.Simd.Lanes.{mask_l, zip2};
 ghost use Rattle.md_meaning.specs.Rest as rest;
 ghost use Rattle.markdown_inlines.specs.Plain as spec;
 
@@ -24,21 +23,47 @@ fn is_plain(literals: bool, byte: u8) -> bool
     }
 }
 
-/// Whether it is such a byte and ends no line.
-fn is_inner(literals: bool, byte: u8) -> bool
-    ensures { result ≡ spec.is_inner literals byte }
+/// Whether the first of two bytes is that of `http` or `www`, in any case, and the second is not.
+fn differs(first: u8, second: u8) -> bool
+    ensures { result ≡ spec.differs first second }
 {
-    byte != b'\n' && is_plain(literals, byte)
+    match first {
+        b'H' | b'h' => !(second == b'T' || second == b't'),
+        b'W' | b'w' => !(second == b'W' || second == b'w'),
+        _ => false,
+    }
 }
 
-/// How many of these come first, counted one by one.
+/// Whether no address begins, since the second byte is another, with a byte with which one may begin.
+fn is_quiet(text: &[u8]) -> bool
+    ensures { result ≡ spec.is_quiet text.now }
+{
+    match text {
+        [first, second, ..] => differs(*first, *second),
+        _ => false,
+    }
+}
+
+/// Whether a text begins with a byte that begins nothing, or no address that is read, and ends no line.
+fn is_inner(literals: bool, text: &[u8]) -> bool
+    ensures { result ≡ spec.is_inner literals text.now }
+{
+    match text {
+        [byte, ..] => *byte != b'\n' && (is_plain(literals, *byte) || literals && is_quiet(text)),
+        [] => false,
+    }
+}
+
+/// How many such bytes are at the front, counted one by one.
 fn each_inner_len(literals: bool, text: &[u8]) -> usize
-    ensures value { result ≡ prefix_len (spec.is_inner literals) text.now }
+    ensures value { result ≡ spec.inner_len literals text.now }
     ensures bound { result ≤ length text.now }
 {
-    text.iter()
-        .take_while(|byte| is_inner(literals, **byte))
-        .count()
+    let mut at = 0;
+    while at < text.len() && is_inner(literals, &text[at..]) {
+        at += 1;
+    }
+    at
 }
 
 /// The place of the lowest bit that is set, or 16 where none is.
@@ -56,7 +81,7 @@ fn lowest_bit(mask: u64) -> usize
 /// The bits of the bytes that are none of these, where no address is read.
 #[inline(always)]
 fn stops(bytes: u8x16) -> u64
-    ensures { result ≡ mask_l (map (λ b. not (spec.is_inner false b)) bytes) }
+    ensures { result ≡ mask_l (map (λ b. not (not (b == 10) && spec.is_plain false b)) bytes) }
 {
     (bytes.simd_eq(u8x16::splat(b'\n'))
         | bytes.simd_eq(u8x16::splat(b'!'))
@@ -72,10 +97,11 @@ fn stops(bytes: u8x16) -> u64
         | bytes.simd_eq(u8x16::splat(b'~'))).to_bitmask()
 }
 
-/// The same, where addresses are read.
+/// The same, where addresses are read, given the byte after each: `http` begins with two bytes that few others do, and
+/// so does `www`.
 #[inline(always)]
-fn stops_or_addresses(bytes: u8x16) -> u64
-    ensures { result ≡ mask_l (map (λ b. not (spec.is_inner true b)) bytes) }
+fn stops_or_addresses(bytes: u8x16, nexts: u8x16) -> u64
+    ensures { result ≡ mask_l (zip2 (λ b c. not (spec.is_inner_by true b c)) bytes nexts) }
 {
     (bytes.simd_eq(u8x16::splat(b'\n'))
         | bytes.simd_eq(u8x16::splat(b'!'))
@@ -89,21 +115,23 @@ fn stops_or_addresses(bytes: u8x16) -> u64
         | bytes.simd_eq(u8x16::splat(b'_'))
         | bytes.simd_eq(u8x16::splat(b'`'))
         | bytes.simd_eq(u8x16::splat(b'~'))
-        | bytes.simd_eq(u8x16::splat(b'H'))
-        | bytes.simd_eq(u8x16::splat(b'W'))
-        | bytes.simd_eq(u8x16::splat(b'h'))
-        | bytes.simd_eq(u8x16::splat(b'w'))).to_bitmask()
+        | (bytes.simd_eq(u8x16::splat(b'H')) | bytes.simd_eq(u8x16::splat(b'h')))
+            & (nexts.simd_eq(u8x16::splat(b'T')) | nexts.simd_eq(u8x16::splat(b't')))
+        | (bytes.simd_eq(u8x16::splat(b'W')) | bytes.simd_eq(u8x16::splat(b'w')))
+            & (nexts.simd_eq(u8x16::splat(b'W')) | nexts.simd_eq(u8x16::splat(b'w')))).to_bitmask()
 }
 
 /// How many of the 16 bytes in front are such bytes, up to the first that is not: all are compared at once.
 #[inline(always)]
 fn inner_of_16(literals: bool, text: &[u8]) -> usize
-    requires { 16 ≤ length text.now }
-    ensures { result ≡ prefix_len (spec.is_inner literals) (take 16 text.now) }
+    requires { 17 ≤ length text.now }
+    ensures stops { result < 16 → result ≡ spec.inner_len literals text.now }
+    ensures passes { 16 ≤ result →
+        16 + spec.inner_len literals (drop 16 text.now) ≡ spec.inner_len literals text.now }
 {
     let bytes = u8x16::from_slice(text);
     if literals {
-        lowest_bit(stops_or_addresses(bytes))
+        lowest_bit(stops_or_addresses(bytes, u8x16::from_slice(&text[1..])))
     } else {
         lowest_bit(stops(bytes))
     }
@@ -111,11 +139,11 @@ fn inner_of_16(literals: bool, text: &[u8]) -> usize
 
 /// How many of these come first: 16 are compared at once, and the last ones one by one.
 fn inner_len(literals: bool, text: &[u8]) -> usize
-    ensures value { result ≡ prefix_len (spec.is_inner literals) text.now }
+    ensures value { result ≡ spec.inner_len literals text.now }
     ensures bound { result ≤ length text.now }
 {
     let mut at = 0;
-    while 16 <= text.len() - at {
+    while 17 <= text.len() - at {
         let count = inner_of_16(literals, &text[at..]);
         if count < 16 {
             return at + count;
@@ -171,48 +199,16 @@ fn line_len(literals: bool, text: &[u8]) -> usize
     line_end(dark, len, rest)
 }
 
-/// Whether the first of two bytes is that of `http` or `www`, in any case, and the second is not.
-fn differs(first: u8, second: u8) -> bool
-    ensures { result ≡ spec.differs first second }
-{
-    match first {
-        b'H' | b'h' => !(second == b'T' || second == b't'),
-        b'W' | b'w' => !(second == b'W' || second == b'w'),
-        _ => false,
-    }
-}
-
-/// Whether no address begins, since the second byte is another, with a byte with which one may begin.
-fn is_quiet(text: &[u8]) -> bool
-    ensures { result ≡ spec.is_quiet text.now }
-{
-    match text {
-        [first, second, ..] => differs(*first, *second),
-        _ => false,
-    }
-}
-
-/// How many bytes of text are at the front: up to where a line ends, or a byte that begins no address.
-fn piece_len(literals: bool, text: &[u8]) -> usize
-    ensures text { (k : ℕ) → k < result → spec.begins_text literals (drop k text.now) ≡ true }
-    ensures bound { result ≤ length text.now }
-{
-    if literals && is_quiet(text) {
-        return 1;
-    }
-    line_len(literals, text)
-}
-
 /// How many bytes of text are at the front.
 pub(crate) fn text_len(literals: bool, text: &[u8]) -> usize
     ensures text { (k : ℕ) → k < result → spec.begins_text literals (drop k text.now) ≡ true }
     ensures bound { result ≤ length text.now }
 {
     let mut at = 0;
-    let mut len = piece_len(literals, text);
+    let mut len = line_len(literals, text);
     while len > 0 {
         at += len;
-        len = piece_len(literals, after(text, at));
+        len = line_len(literals, after(text, at));
     }
     at
 }

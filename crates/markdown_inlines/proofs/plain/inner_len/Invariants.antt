@@ -1,12 +1,11 @@
-use Rattle.std.proofs.Common.{◌-◌, ◌≤◌, length}
-use Rattle.std.specs.List.{prefix_len}
-use Rattle.markdown_inlines.specs.Plain.{is_inner}
+use Rattle.std.proofs.Common.{◌≡◌, ◌+◌, ◌-◌, ◌≤◌, drop, length}
+use Rattle.markdown_inlines.specs.Plain.{inner_len}
 use Rattle.markdown_inlines.proofs.plain.inner_len.Given as goal
 
 abbrev pub invariant-loop-at : goal.invariant-loop-at
 invariant-loop-at l = record {
   within : l.at ≤ length l.text;
-  counted : l.at ≤ prefix_len (is_inner l.literals) l.text;
+  counted : l.at + inner_len l.literals (drop l.at l.text) ≡ inner_len l.literals l.text;
 }
 
 abbrev pub decreases-loop-at : goal.decreases-loop-at

@@ -9,14 +9,14 @@ loop-len-preserved c = record {
       omega (
         arith,
         c.loop-len.invariant.within,
-        c.piece_len-len-in-loop-len.ensures.bound,
+        c.line_len-len-in-loop-len.ensures.bound,
         ap length c.after.ensures,
         length-drop (c.loop-len.at + c.loop-len.len) c.args.text.now,
       );
   passed =
-      texts-further c.args.literals c.args.text.now (c.loop-len.at + c.loop-len.len) c.piece_len-len-in-loop-len.result
+      texts-further c.args.literals c.args.text.now (c.loop-len.at + c.loop-len.len) c.line_len-len-in-loop-len.result
       c.loop-len.invariant.passed
       (λ k few.
       ap (λ (l : List ℕ). begins_text c.args.literals (drop k l)) (sym c.after.ensures)
-      ∙ c.piece_len-len-in-loop-len.ensures.text k few);
+      ∙ c.line_len-len-in-loop-len.ensures.text k few);
 }
