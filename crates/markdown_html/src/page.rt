@@ -109,6 +109,11 @@ fn plan_of(
     })
 }
 
+/// For how many bytes a page has room at once: as many as the text has, and some for tags.
+fn room_for(bytes: &[u8]) -> usize {
+    bytes.len().saturating_add(bytes.len() / 4)
+}
+
 /// The HTML of a text, given what `parser::parse_with` returns of it with the layer `Inlines` of `markdown_inlines`.
 ///
 /// Paragraphs in tight lists have no `<p>` around them (CommonMark 5.3). Definitions and frontmatter are not shown.
@@ -204,7 +209,7 @@ impl<'a, 'b> Page<'a, 'b> {
         let alloc = known.alloc;
         Page {
             known,
-            out: Writer::new(alloc),
+            out: Writer::with_room(alloc, room_for(known.bytes)),
             ends_by_feed: known.ending == "\n",
             start: Point {
                 line: 1,

@@ -26,6 +26,22 @@ impl Writer {
         }
     }
 
+    /// The same, with room for so many bytes.
+    pub(crate) fn with_room(alloc: Global, room: usize) -> Writer {
+        match Vec::with_capacity(alloc, room) {
+            Ok(bytes) => Writer {
+                alloc,
+                bytes,
+                is_refused: false,
+            },
+            Err(_) => Writer {
+                alloc,
+                bytes: Vec::new(alloc),
+                is_refused: true,
+            },
+        }
+    }
+
     /// What is written, and whether a request for memory was refused before all of it was.
     pub(crate) fn finish(self) -> (Vec<u8>, bool) {
         (self.bytes, self.is_refused)
