@@ -231,7 +231,7 @@ fn is_unread(events: &[Event], many: usize) -> bool
 }
 
 /// What is found where nothing is read.
-fn nothing(alloc: Global) -> Subresult
+pub(crate) fn nothing(alloc: Global) -> Subresult
     ensures { found_in result ≡ nothing }
 {
     Subresult {

@@ -38,7 +38,7 @@ ghost use Rattle.markdown_blocks.specs.PartRead.{WaitsInText, WaitsOutside, befo
 ghost use Rattle.markdown_blocks.specs.PartRead.{is_line_begin, labels_of, point_in};
 ghost use Rattle.markdown_blocks.specs.TextsRead.{BeginsPart};
 
-use crate::parser::{footnotes_of, read_front, read_texts, resolve_blocks, until_changed};
+use crate::parser::{footnotes_of, nothing, read_front, read_texts, resolve_blocks, until_changed};
 use md_at_once::table::FlowTable;
 use md_engine::class::above_cr_len;
 use md_engine::configuration::ParseOptions;
@@ -368,7 +368,7 @@ fn push_lines<'a>(
 }
 
 /// Ends a text after the lines that flow was fed, reads their content, joins the lines of each leaf of several, and
-/// runs the resolvers of items, headings and tables.
+/// runs the resolvers of items, headings and tables. One test of each event may show that none of this changes anything.
 ///
 /// An `Err` says that memory ran out.
 fn set_lines<'a>(
@@ -388,6 +388,10 @@ fn set_lines<'a>(
     let mut tokenizer = pushed;
     flush::<FlowTable>(&mut tokenizer, state, false)?;
     let same = until_changed(&tokenizer.events);
+    if same == tokenizer.events.len() {
+        let found = nothing(tokenizer.alloc);
+        return Ok((tokenizer, found));
+    }
     let (found, many) = read_texts(&mut tokenizer, start, same)?;
     resolve_blocks(&mut tokenizer, options, many)?;
     Ok((tokenizer, found))

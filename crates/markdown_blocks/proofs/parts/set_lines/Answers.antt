@@ -1,18 +1,41 @@
-use Rattle.std.proofs.Common.{◌≡◌, ℕ, List, ap, arith, length, refl, subst, sym, ◌∙◌}
+use Rattle.std.proofs.Common.{◌≡◌, ℕ, Bool, List, ap, arith, length, refl, subst, sym, ◌∙◌}
 use Rattle.std.specs.List.{prefix_len}
 use Rattle.md_engine.specs.Found.{found_in}
 use Rattle.md_engine.specs.World.{World, fresh, world}
 use Rattle.md_engine.specs.declared.event.Event.{Event}
 use Rattle.markdown_blocks.specs.Alone.{stays_by_name}
+use Rattle.markdown_blocks.specs.ContentRead.{ReadIf}
 use Rattle.markdown_blocks.specs.Parsed.{IsSmall, IsWithoutMdx}
 use Rattle.markdown_blocks.specs.PartRead.{BeginsPart}
 use Rattle.markdown_blocks.proofs.ContentAre.{joined-set}
 use Rattle.markdown_blocks.proofs.FlowReads.{FlowFlushed, flow-flushed-from, flow-reads, flushed-events}
 use Rattle.markdown_blocks.proofs.FlowReads.{flushed-side}
 use Rattle.markdown_blocks.proofs.PartBegins.{part-may}
-use Rattle.markdown_blocks.proofs.StaysAlone.{stay-alone}
+use Rattle.markdown_blocks.proofs.StaysAlone.{alone-same, stay-alone, stay-none}
 use Rattle.markdown_blocks.proofs.TextsRead.{flow-read}
 use Rattle.markdown_blocks.proofs.parts.set_lines.Goals as goal
+
+pub returns-then-same-len : goal.returns-then-same-len
+returns-then-same-len c =
+    let w : World = world c.flush.new.tokenizer in
+    let all : prefix_len stays_by_name w.events ≡ length w.events =
+    sym
+    (c.until_changed-same.ensures.value
+    ∙ ap (λ (es : List Event). prefix_len stays_by_name es) c.deref.ensures.value)
+    ∙ c.if-same-len.true ∙ c.len.ensures ∙ sym c.deref.ensures.len
+    ∙ ap (λ (es : List Event). length es) c.deref.ensures.value in
+    let flushed : FlowFlushed c.args.bytes.now c.args.options.now c.args.start (found_in c.nothing-found.result) w =
+    flow-flushed-from c.args.bytes.now c.args.options.now c.args.start
+    (fresh c.args.bytes.now c.args.options.now c.args.start) (length c.args.bytes.now) _ _ _ _
+    (found_in c.nothing-found.result) w refl refl (omega (arith, c.requires.small)) c.requires.runs
+    c.in_ok-flush.ensures
+    (subst (λ (b : Bool). ReadIf b w (found_in c.nothing-found.result) w) (sym (stay-none w.events all))
+    (c.nothing-found.ensures, refl)) in
+    flow-reads c.args.bytes.now c.args.options.now c.args.start _ _ _ flushed
+    (joined-set c.args.options.now c.args.bytes.now c.args.start c.requires.built (omega (arith, c.requires.small)) _ w
+    (part-may c.args.bytes.now c.args.start c.requires.begins) flushed)
+    (ap (λ (es : List Event). record w { events = es })
+    (sym (alone-same c.args.options.now w.setting.bytes w.events all)))
 
 pub read_texts-requires-clause-side : goal.read_texts-requires-clause-side
 read_texts-requires-clause-side c =
