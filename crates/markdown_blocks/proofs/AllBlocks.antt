@@ -1,6 +1,6 @@
 -- All blocks of a text are those of its front, and then those of its parts.
 use Rattle.std.proofs.Common.{◌≡◌, ◌^◌, ◌<◌, ◌-◌, ℕ, List, ◌++◌, length, ap, ap₂, sym}
-use Rattle.std.proofs.Common.{◌∙◌, subst, arith, append-nil, append_assoc}
+use Rattle.std.proofs.Common.{◌∙◌, subst, append_assoc}
 use Rattle.std.specs.Prelude.{Option, Some, None}
 use Rattle.std.specs.Option.{ForSome}
 use Rattle.std.proofs.lemmas.List.Elements.{All-append}
@@ -13,10 +13,9 @@ use Rattle.md_events.specs.Exact.Blocks.{exact}
 use Rattle.md_meaning.specs.Label.{Labels, both, labels, no_labels}
 use Rattle.md_meaning.specs.Meaning.{tree}
 use Rattle.markdown_blocks.specs.declared.parts.Part.{Part}
-use Rattle.markdown_blocks.specs.PartRead.{AreAllBlocks, HasUnread, MayRead, labels_after, labels_of, point_in}
+use Rattle.markdown_blocks.specs.PartRead.{HasUnread, MayRead, labels_after, labels_of, point_in}
 use Rattle.markdown_blocks.specs.PartRead.{unread_after}
 use Rattle.markdown_blocks.proofs.PartFront.{IsFrontRead, blocks-left, labels-left, may-read}
-use Rattle.markdown_blocks.proofs.PartLined.{take-short}
 use Rattle.markdown_blocks.proofs.PartWhole.{text-placed}
 
 -- These are the blocks of a text before the next part, and that may be read.
@@ -67,29 +66,7 @@ next-before options text all p part next new small before has may events labels_
         (sym (append_assoc a.definitions b.definitions c.definitions))
         (sym (append_assoc a.footnotes b.footnotes c.footnotes))
 
--- Where none follows, they are all.
-pub last-before : (options : ParseOptions) (text : List ℕ) (all : Part) → IsBefore options text all None →
-    AreAllBlocks options text all
-last-before options text all before = record {
-  are = sym (before.events ∙ append-nil all.events.items);
-  placed = before.placed;
-  labels_are =
-      sym
-      (before.labels_are
-      ∙ ap₂ (λ (d f : List (List ℕ)). let l : Labels = record { definitions = d; footnotes = f } in l)
-      (append-nil (labels_of all).definitions) (append-nil (labels_of all).footnotes));
-}
-
 -- How many bytes are left of a text from the next part on.
 abbrev pub bytes_left : List ℕ → Option Point → ℕ
 bytes_left text None = 0
 bytes_left text (Some p) = length text - p.index
-
-pub fewer-left : (options : ParseOptions) (text : List ℕ) (p : Point) (part : Part) (next : Option Point) →
-    MayRead options text p → HasUnread options text p part next → bytes_left text next < bytes_left text (Some p)
-fewer-left options text p part None reads has = let inside = reads.begins.inside in omega (arith, inside)
-fewer-left options text p part (Some q) reads has =
-    let some = has.some in
-    let inside = reads.begins.inside in
-    let short = take-short q.index text in
-    omega (arith, some, inside, short)

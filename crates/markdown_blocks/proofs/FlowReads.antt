@@ -13,7 +13,7 @@ use Rattle.md_engine.specs.declared.state.State.{State}
 use Rattle.md_engine.specs.declared.state.State.TheVariants.{Error, Ok, Nok, Next, Retry}
 use Rattle.md_engine.specs.Found.{Found, nothing}
 use Rattle.md_engine.specs.Meaning.{Accepts, whole_outcome, proceeds, here}
-use Rattle.md_engine.specs.Run.{Flushes, IsEnd, Resolution, Runs, Step, plain}
+use Rattle.md_engine.specs.Run.{Flushes, IsEnd, Runs, plain}
 use Rattle.md_engine.specs.Scheme.{valid}
 use Rattle.md_engine.specs.TextFeed.{text_feed}
 use Rattle.md_engine.specs.World.{Setting, World, fresh, reads_to}
@@ -181,17 +181,6 @@ content-step bytes options rows at found new framed quiet events text set false 
           ∙ ap (labels_in bytes) (sym same);
       footnotes = ap (λ (x : Found). x.footnotes) h.0;
     }
-
--- no attempt is around after a flush, and after content
-
-pub flushed-frames : (T : Step) (R : Resolution) (end : State) (at : World) (found : Found) (new : World) →
-    Flushes T R end at false found new → new.frames ≡ []
-flushed-frames T R end at found new f = ap (λ (w : World). w.frames) f.resolved.0 ∙ f.none_left
-
-pub read-frames : (b : Bool) (old : World) (found : Found) (new : World) → ReadIf b old found new →
-    new.frames ≡ old.frames
-read-frames true old found new h = ap (λ (w : World). w.frames) h.rest
-read-frames false old found new h = ap (λ (w : World). w.frames) h.1
 
 -- What flow has added once a text from a point on was pushed and flushed, before its content is read: the events of its
 -- rows.

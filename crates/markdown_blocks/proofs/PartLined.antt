@@ -119,7 +119,7 @@ range-within text to a b within = go (nat_le a to) refl
         let none : b - a ≡ 0 = let after : to < a = grind (arith, nat_tests) in omega (arith, within, after) in
         ap (λ (n : ℕ). take n (drop a (take to text))) none ∙ ap (λ (n : ℕ). take n (drop a text)) (sym none)
 
-pub take-short : (n : ℕ) (l : List ℕ) → length (take n l) ≤ n
+take-short : (n : ℕ) (l : List ℕ) → length (take n l) ≤ n
 take-short zero l = omega arith
 take-short (suc n) [] = omega arith
 take-short (suc n) (b ∷ l) = let more = take-short n l in omega (arith, more)

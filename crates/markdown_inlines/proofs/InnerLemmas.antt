@@ -76,21 +76,7 @@ inner-stops literals (b ∷ text) h = go (is_inner literals (b ∷ text)) refl h
         ap (λ (n : ℕ). is_inner literals (drop n (b ∷ text))) next ∙ more (omega (arith, h))
     go false e h more = e
 
--- those after some of them
-pub inner-after : (literals : Bool) (text : List ℕ) (at : ℕ) → at ≤ inner_len literals text →
-    at + inner_len literals (drop at text) ≡ inner_len literals text
-inner-after literals text zero le = omega arith
-inner-after literals [] (suc at) le = absurd (omega (arith, le))
-inner-after literals (b ∷ text) (suc at) le =
-    go (is_inner literals (b ∷ text)) (inner-after literals text at) le
-  where
-    go : (t : Bool) → (at ≤ inner_len literals text →
-        at + inner_len literals (drop at text) ≡ inner_len literals text) →
-        suc at ≤ cond t (1 + inner_len literals text) 0 →
-        suc at + inner_len literals (drop at text) ≡ cond t (1 + inner_len literals text) 0
-    go true more le = let rest = more (omega (arith, le)) in omega (arith, rest)
-    go false more le = absurd (omega (arith, le))
-
+-- so many after some of them
 pub inner-further : (literals : Bool) (text : List ℕ) (at n : ℕ) →
     at + inner_len literals (drop at text) ≡ inner_len literals text →
     n + inner_len literals (drop n (drop at text)) ≡ inner_len literals (drop at text) →
@@ -98,15 +84,11 @@ pub inner-further : (literals : Bool) (text : List ℕ) (at n : ℕ) →
 inner-further literals text at n front more =
     let same = ap (inner_len literals) (drop-drop n at text) in omega (arith, front, more, same)
 
--- one more, or none
+-- one more
 pub inner-next : (literals : Bool) (text : List ℕ) → is_inner literals text ≡ true →
     1 + inner_len literals (drop 1 text) ≡ inner_len literals text
 inner-next literals [] h = cc
 inner-next literals (b ∷ text) h = sym (ap (λ (t : Bool). cond t (1 + inner_len literals text) 0) h)
-
-pub inner-none : (literals : Bool) (text : List ℕ) → is_inner literals text ≡ false → inner_len literals text ≡ 0
-inner-none literals [] h = refl
-inner-none literals (b ∷ text) h = ap (λ (t : Bool). cond t (1 + inner_len literals text) 0) h
 
 -- of so many in front, each with the byte after it
 pub inner-pairs : (literals : Bool) (n : ℕ) (text : List ℕ) → n < length text →

@@ -442,16 +442,3 @@ text-front options inside before b text passes = go (is_plain literals b) (is_qu
         front-text options inside before b text (others b q.others)
         (none-there (literals && not inside) before (b ∷ text) q.none) trail
     go false false e f h = cc
-
--- two bytes with which no address begins
-pub quiet-text : (literals : Bool) (text : List ℕ) → is_quiet text ≡ true → begins_text literals text ≡ true
-quiet-text literals [] h = cc
-quiet-text literals (b ∷ text) h =
-    let none : trailing_len (b ∷ text) ≡ 0 = dark-trailing b text (quiet-first b text h).dark in
-    ap (λ (t : Bool). (is_plain literals b || t) && (trailing_len (b ∷ text) == 0)) h
-    ∙ ap (λ (n : ℕ). (is_plain literals b || true) && (n == 0)) none
-    ∙ go (is_plain literals b)
-  where
-    go : (t : Bool) → ((t || true) && true) ≡ true
-    go true = refl
-    go false = refl
