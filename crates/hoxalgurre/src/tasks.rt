@@ -8,8 +8,8 @@ use crate::trouble::Trouble;
 use clap::ArgMatches;
 use markdown_blocks::configuration::{Constructs, ParseOptions};
 use markdown_blocks::parser::MAX_LEN;
-use simdutf8::compat;
 use std::io::Write;
+use std::str;
 
 /// Why there is no report of a file.
 #[derive(Clone, Copy)]
@@ -93,7 +93,7 @@ fn report_file(rt: &HostRuntime, asked: Asked<'_>, file: &str) -> Result<Report,
     if bytes.len() > MAX_LEN {
         return Err(refused(Trouble::TooLong));
     }
-    let text = match compat::from_utf8(bytes.as_slice()) {
+    let text = match str::from_utf8(bytes.as_slice()) {
         Ok(text) => text,
         Err(error) => return Err(no_text(bytes.as_slice(), error.valid_up_to())),
     };

@@ -7,7 +7,6 @@ use crate::failure::Failure;
 use crate::printing::Printing;
 use crate::set::{asked_for, options};
 use crate::streams::{read_whole, write_whole};
-use simdutf8::compat;
 use std::alloc::Global;
 use std::io::{Read, Write};
 
@@ -66,7 +65,7 @@ fn whole_output<P: Printing, R: Read>(
         return Err(Failure::UnknownArgument);
     };
     let bytes = read_whole(alloc, input)?;
-    let Ok(text) = compat::from_utf8(bytes.as_slice()) else {
+    let Ok(text) = str::from_utf8(bytes.as_slice()) else {
         return Err(Failure::NotUtf8);
     };
     let output = P::output(alloc, text, options(set))?;
