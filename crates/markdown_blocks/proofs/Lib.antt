@@ -56,3 +56,5 @@ pub mod AllBlocks
 pub mod PlaceOnce
 mod PlacedParts
 mod PartWalk
+pub mod Handed
+pub mod DefinitionLemmas

@@ -1,6 +1,6 @@
 -- A walk over the blocks of a document by which a layer reads its text parts: which part is next, and where it is.
-use Rattle.std.proofs.Common.{◌≡◌, ℕ, zero, suc, ◌+◌, ◌<◌, ◌⊎◌, inl, inr, List, [], ◌∷◌, length, get_or}
-use Rattle.std.proofs.Common.{drop, ap, sym, ◌∙◌, subst, arith}
+use Rattle.std.proofs.Common.{◌≡◌, ℕ, zero, suc, ◌+◌, ◌<◌, ◌≤◌, ◌⊎◌, inl, inr, Bool, true, false, List, [], ◌∷◌, ◌++◌, length}
+use Rattle.std.proofs.Common.{append-nil, append_assoc, get_or, take, drop, refl, ap, sym, ◌∙◌, subst, arith}
 use Rattle.std.specs.Prelude.{Option, Some, None}
 use Rattle.std.specs.List.{prefix_len}
 use Rattle.md_engine.specs.declared.event.Content.{Content}
@@ -9,25 +9,27 @@ use Rattle.md_events.specs.declared.inline.Chunk.{Chunk}
 use Rattle.md_events.specs.declared.inline.PartPlace.{PartPlace}
 use Rattle.md_events.specs.Events.Inline.{Part}
 use Rattle.md_events.specs.Events.Tiles.{parts}
-use Rattle.md_events.specs.Substituted.{Begun, chunk_of, chunks_after, chunks_from, stays, wanted}
+use Rattle.md_events.specs.Substituted.{Begun, Readings, chunk_of, chunks_after, chunks_from, stays, wanted}
 use Rattle.md_events.specs.TextPart.{AreBlocks, Document, text_kind, wants_text}
 use Rattle.md_events.proofs.PartWalks.{Walk, Ends, Stays, Begins, IsContinued, unlinked-unwanted}
 use Rattle.md_events.proofs.PartWalks.{walk-blocks}
-use Rattle.markdown_blocks.specs.PartPlaces.{IsNext, part_places, taken_after}
+use Rattle.md_events.proofs.SubstitutedLemmas.{Leads, leads-event}
+use Rattle.markdown_blocks.specs.PartPlaces.{IsNext, part_places, places_after}
 use Rattle.markdown_blocks.proofs.PlacedParts.{ArePlacedAt, following-parts, next-part, placed-parts}
 
--- What is left of such a walk: so many places are taken, and so many chunks of a part that has begun are left.
-pub record AreNext (document : Document) (places : List PartPlace) (taken chunks : ℕ) (rest : List Event) : Type 0 where
+-- What is left of such a walk: the places of the parts whose first chunk is still to come, and so many chunks of a part
+-- that has begun.
+pub record AreNext (document : Document) (places : List PartPlace) (chunks : ℕ) (rest : List Event) : Type 0 where
   pub left : List Chunk
   pub following : List Part
   pub walk : Walk left rest following
   pub count : length left ≡ chunks
-  pub placed : ArePlacedAt document following (drop taken places)
+  pub placed : ArePlacedAt document following places
 
 -- nothing is read yet
 pub ahead-first : (document : Document) (blocks rest : List Event) (places : List PartPlace) (chunks : ℕ) →
     AreBlocks document blocks → rest ≡ blocks → places ≡ part_places None blocks → chunks ≡ 0 →
-    AreNext document places 0 chunks rest
+    AreNext document places chunks rest
 ahead-first document blocks rest places chunks are whole is none = record {
   left = [];
   following = parts blocks;
@@ -59,47 +61,100 @@ walk-stays (IsContinued {e = d} {f = f} {es = es} {held = held} is walk) e first
     first_of (x ∷ xs) = Some x
 walk-stays (IsContinued is walk) e first (inr none) = cc
 
--- events that stay, up to the next chunk
-walk-run : {left : List Chunk} {rest : List Event} {following : List Part} → Walk left rest following →
-    Walk left (drop (prefix_len (stays wants_text) rest) rest) following
-walk-run Ends = Ends
-walk-run (Stays {e = e} {es = es} unlinked outer walk) =
+-- some of the events that stay, before the next chunk
+walk-run : {left : List Chunk} {rest : List Event} {following : List Part} → Walk left rest following → (n : ℕ) →
+    n ≤ prefix_len (stays wants_text) rest → Walk left (drop n rest) following
+walk-run walk zero within = walk
+walk-run Ends (suc n) within = Ends
+walk-run (Stays {e = e} {es = es} unlinked outer walk) (suc n) within =
     let none : wanted wants_text e ≡ None = unlinked-unwanted wants_text e unlinked in
-    let more : 1 + prefix_len (stays wants_text) es ≡ suc (prefix_len (stays wants_text) es) = omega arith in
-    rw (none, more) (walk-run walk)
-walk-run (Begins is listed walk) = rw is.holds (Begins is listed walk)
-walk-run (IsContinued is walk) = rw is.holds (IsContinued is walk)
+    let more : suc n ≤ 1 + prefix_len (stays wants_text) es = rw none at within in
+    walk-run walk n (omega (arith, more))
+walk-run (Begins is listed walk) (suc n) within =
+    let none : suc n ≤ 0 = rw is.holds at within in absurd (omega (arith, none))
+walk-run (IsContinued is walk) (suc n) within =
+    let none : suc n ≤ 0 = rw is.holds at within in absurd (omega (arith, none))
 
-pub ahead-stays : (document : Document) (places : List PartPlace) (taken chunks many : ℕ) (rest : List Event)
-    (e : Event) → rest ≡ e ∷ drop 1 rest → (wanted wants_text e ≡ None) ⊎ (drop 1 rest ≡ []) →
-    many ≡ suc (prefix_len (stays wants_text) (drop 1 rest)) →
-    AreNext document places taken chunks rest → AreNext document places taken chunks (drop many rest)
-ahead-stays document places taken chunks many rest e first stay count ahead =
-    let run : ℕ = prefix_len (stays wants_text) (drop 1 rest) in
-    let left : drop many rest ≡ drop run (drop 1 rest) =
-    ap (λ (list : List Event). drop many list) first ∙ ap (λ (n : ℕ). drop n (e ∷ drop 1 rest)) count in
-    record {
-      left = ahead.left;
-      following = ahead.following;
-      walk =
-          subst (λ (list : List Event). Walk ahead.left list ahead.following) (sym left)
-          (walk-run (walk-stays ahead.walk e first stay));
-      count = ahead.count;
-      placed = ahead.placed;
-    }
+pub ahead-stays : (document : Document) (places : List PartPlace) (chunks many : ℕ) (rest : List Event)
+    (e : Event) → rest ≡ e ∷ drop 1 rest → (wanted wants_text e ≡ None) ⊎ (drop 1 rest ≡ []) → 0 < many →
+    many ≤ suc (prefix_len (stays wants_text) (drop 1 rest)) →
+    AreNext document places chunks rest → AreNext document places chunks (drop many rest)
+ahead-stays document places chunks zero rest e first stay some within ahead = absurd (omega arith)
+ahead-stays document places chunks (suc n) rest e first stay some within ahead = record {
+  left = ahead.left;
+  following = ahead.following;
+  walk =
+      subst (λ (list : List Event). Walk ahead.left list ahead.following)
+      (sym (ap (λ (list : List Event). drop (suc n) list) first))
+      (walk-run (walk-stays ahead.walk e first stay) n (omega arith));
+  count = ahead.count;
+  placed = ahead.placed;
+}
+
+-- The same of the events that are given.
+
+leads-run : (wants : Content → Bool) (reads : Readings) (events left rest all : List Event) (chunks n : ℕ) →
+    n ≤ prefix_len (stays wants) rest → Leads wants reads events left chunks rest all →
+    Leads wants reads events left chunks (drop n rest) (all ++ take n rest)
+leads-run wants reads events left rest all chunks zero within leads =
+    subst (Leads wants reads events left chunks rest) (sym (append-nil all)) leads
+leads-run wants reads events left [] all chunks (suc n) within leads =
+    subst (Leads wants reads events left chunks []) (sym (append-nil all)) leads
+leads-run wants reads events left (e ∷ es) all chunks (suc n) within leads =
+    go (wanted wants e) refl
+    (λ less on. leads-run wants reads events left es (all ++ e ∷ []) chunks n less on)
+  where
+    go : (x : Option Content) → wanted wants e ≡ x →
+        (n ≤ prefix_len (stays wants) es → Leads wants reads events left chunks es (all ++ e ∷ []) →
+        Leads wants reads events left chunks (drop n es) ((all ++ e ∷ []) ++ take n es)) →
+        Leads wants reads events left chunks (drop n es) (all ++ e ∷ take n es)
+    go None none following =
+        let more : suc n ≤ 1 + prefix_len (stays wants) es = rw none at within in
+        subst (Leads wants reads events left chunks (drop n es)) (append_assoc all (e ∷ []) (take n es))
+        (following (omega (arith, more)) (leads-event wants reads events left es all chunks e (inl none) leads))
+    go (Some held) some following = let none : suc n ≤ 0 = rw some at within in absurd (omega (arith, none))
+
+pub leads-stay : (wants : Content → Bool) (reads : Readings) (events left all rest : List Event) (chunks many : ℕ)
+    (e : Event) →
+    rest ≡ e ∷ drop 1 rest → (wanted wants e ≡ None) ⊎ (drop 1 rest ≡ []) → 0 < many →
+    many ≤ suc (prefix_len (stays wants) (drop 1 rest)) →
+    Leads wants reads events left chunks rest all →
+    Leads wants reads events left chunks (drop many rest) (all ++ take many rest)
+leads-stay wants reads events left all rest chunks zero e first stay some within leads = absurd (omega arith)
+leads-stay wants reads events left all rest chunks (suc n) e first stay some within leads =
+    subst (λ (l : List Event). Leads wants reads events left chunks (drop (suc n) l) (all ++ take (suc n) l))
+    (sym first)
+    (subst (Leads wants reads events left chunks (drop n es)) (append_assoc all (e ∷ []) (take n es))
+    (leads-run wants reads events left es (all ++ e ∷ []) chunks n (omega arith)
+    (leads-event wants reads events left es all chunks e stay
+    (subst (λ (l : List Event). Leads wants reads events left chunks l all) first leads))))
+  where
+    es : List Event
+    es = drop 1 rest
+
+-- a test of fewer events passes no more of them
+pub prefix-within : (p : Event → Bool) (n : ℕ) (es : List Event) → prefix_len p (take n es) ≤ prefix_len p es
+prefix-within p zero es = omega arith
+prefix-within p (suc n) [] = omega arith
+prefix-within p (suc n) (e ∷ es) = go (p e) refl (prefix-within p n es)
+  where
+    go : (x : Bool) → p e ≡ x → prefix_len p (take n es) ≤ prefix_len p es →
+        prefix_len p (take (suc n) (e ∷ es)) ≤ prefix_len p (e ∷ es)
+    go true passes less = rw passes (omega (arith, less))
+    go false fails less = rw fails (omega arith)
 
 -- a chunk, where none is left of a part that has begun, is the first of the next part
-pub ahead-part : (document : Document) (places : List PartPlace) (taken chunks : ℕ) (rest : List Event) (d : Event)
+pub ahead-part : (document : Document) (places : List PartPlace) (chunks : ℕ) (rest : List Event) (d : Event)
     (content : Content) → 1 < length rest → Some content ≡ wanted wants_text (get_or rest 0 d) →
-    AreNext document places taken chunks rest → chunks ≡ 0 →
-    IsNext document places taken (record { kind = text_kind content; chunks = chunks_from wants_text rest })
-ahead-part document places taken chunks rest d content two some ahead none =
+    AreNext document places chunks rest → chunks ≡ 0 →
+    IsNext document places (record { kind = text_kind content; chunks = chunks_from wants_text rest })
+ahead-part document places chunks rest d content two some ahead none =
     go ahead.walk two some (ahead.count ∙ none) ahead.placed
   where
     go : {left : List Chunk} {rest : List Event} {following : List Part} → Walk left rest following →
         1 < length rest → Some content ≡ wanted wants_text (get_or rest 0 d) → length left ≡ 0 →
-        ArePlacedAt document following (drop taken places) →
-        IsNext document places taken (record { kind = text_kind content; chunks = chunks_from wants_text rest })
+        ArePlacedAt document following places →
+        IsNext document places (record { kind = text_kind content; chunks = chunks_from wants_text rest })
     go Ends two some none placed = absurd (omega arith)
     go (Stays {e = e} unlinked outer walk) two some none placed =
         let no : wanted wants_text e ≡ None = unlinked-unwanted wants_text e unlinked in cc
@@ -109,31 +164,31 @@ ahead-part document places taken chunks rest d content two some ahead none =
         let kind : content ≡ held = cc in
         subst
         (λ (list : List Chunk).
-        IsNext document places taken (record { kind = text_kind content; chunks = chunk_of e f ∷ list })) (sym listed)
+        IsNext document places (record { kind = text_kind content; chunks = chunk_of e f ∷ list })) (sym listed)
         (subst
         (λ (c : Content).
-        IsNext document places taken (record { kind = text_kind c; chunks = chunk_of e f ∷ left })) (sym kind)
-        (next-part document (record { kind = text_kind held; chunks = chunk_of e f ∷ left }) following places taken
+        IsNext document places (record { kind = text_kind c; chunks = chunk_of e f ∷ left })) (sym kind)
+        (next-part document (record { kind = text_kind held; chunks = chunk_of e f ∷ left }) following places
         placed))
     go (IsContinued is walk) two some none placed = absurd (omega arith)
 
 -- what is ahead once a chunk is read
-pub ahead-next : (document : Document) (places : List PartPlace) (taken chunks many chunks_left now_taken : ℕ)
-    (reads : List Event → Type 0) (rest left now : List Event) (d : Event) (content : Content) →
+pub ahead-next : (document : Document) (places : List PartPlace) (chunks many chunks_left : ℕ)
+    (now_places : List PartPlace) (reads : List Event → Type 0) (rest left now : List Event) (d : Event) (content : Content) →
     1 < length rest → Some content ≡ wanted wants_text (get_or rest 0 d) →
     Begun reads (length (chunks_from wants_text rest)) left chunks now many → chunks_left + 1 ≡ many →
-    now_taken ≡ taken_after chunks taken → AreNext document places taken chunks rest →
-    AreNext document places now_taken chunks_left (drop 2 rest)
-ahead-next document places taken chunks many chunks_left now_taken reads rest before now d content two some begun one took
+    now_places ≡ places_after chunks places → AreNext document places chunks rest →
+    AreNext document now_places chunks_left (drop 2 rest)
+ahead-next document places chunks many chunks_left now_places reads rest before now d content two some begun one took
     ahead =
     go chunks took begun ahead.walk two some ahead.count ahead.placed
   where
-    go : (chunks : ℕ) → now_taken ≡ taken_after chunks taken → {left : List Chunk} {rest : List Event}
+    go : (chunks : ℕ) → now_places ≡ places_after chunks places → {left : List Chunk} {rest : List Event}
         {following : List Part} →
         Begun reads (length (chunks_from wants_text rest)) before chunks now many → Walk left rest following →
         1 < length rest → Some content ≡ wanted wants_text (get_or rest 0 d) → length left ≡ chunks →
-        ArePlacedAt document following (drop taken places) →
-        AreNext document places now_taken chunks_left (drop 2 rest)
+        ArePlacedAt document following places →
+        AreNext document now_places chunks_left (drop 2 rest)
     go chunks took begun Ends two some count placed = absurd (omega arith)
     go chunks took begun (Stays {e = e} unlinked outer walk) two some count placed =
         let no : wanted wants_text e ≡ None = unlinked-unwanted wants_text e unlinked in cc
@@ -148,9 +203,9 @@ ahead-next document places taken chunks many chunks_left now_taken reads rest be
           walk = walk;
           count = omega (arith, all, long, one);
           placed =
-              subst (λ (n : ℕ). ArePlacedAt document following (drop n places)) (sym took)
+              subst (ArePlacedAt document following) (sym took)
               (following-parts document (record { kind = text_kind held; chunks = chunk_of e f ∷ left }) following
-              places taken placed);
+              places placed);
         }
     go (suc more) took begun (Begins is listed walk) two some count placed = absurd (omega arith)
     go zero took begun (IsContinued is walk) two some count placed = absurd (omega arith)
@@ -162,5 +217,5 @@ ahead-next document places taken chunks many chunks_left now_taken reads rest be
           following = following;
           walk = walk;
           count = omega (arith, all, count, one);
-          placed = subst (λ (n : ℕ). ArePlacedAt document following (drop n places)) (sym took) placed;
+          placed = subst (ArePlacedAt document following) (sym took) placed;
         }

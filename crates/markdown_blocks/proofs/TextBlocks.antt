@@ -22,7 +22,6 @@ use Rattle.md_containers.proofs.ListedReads.{listed-spelled}
 use Rattle.md_content.specs.FootnoteLabels.{footnote_labels_in}
 use Rattle.md_content.specs.Labels.{labels_in}
 use Rattle.md_meaning.specs.Grouped.{grouped}
-use Rattle.md_meaning.specs.Label.{labels}
 use Rattle.md_leaves.specs.Turned.{turned}
 use Rattle.md_events.specs.Events.Inline.{Covers, pieces, together}
 use Rattle.md_meaning.specs.Meaning.{tree, with_frontmatter}

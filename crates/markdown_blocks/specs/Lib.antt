@@ -11,3 +11,5 @@ pub mod TextMet
 pub mod PartRead
 pub mod PartsLeft
 pub mod PartPlaces
+pub mod Taken
+pub mod Definitions

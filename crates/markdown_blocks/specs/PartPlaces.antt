@@ -1,6 +1,6 @@
 -- Where each text part of a document is, in the order of the text; and where one of them is.
-use Rattle.std.specs.Prelude.{◌≡◌, ℕ, zero, suc, ◌<◌, Bool, false, ◌&&◌, not, if◌then◌else◌, List, [], ◌∷◌, ◌++◌}
-use Rattle.std.specs.Prelude.{length, get_or, Option, Some, None}
+use Rattle.std.specs.Prelude.{◌≡◌, ℕ, zero, suc, Bool, false, ◌&&◌, not, if◌then◌else◌, List, [], ◌∷◌, ◌++◌}
+use Rattle.std.specs.Prelude.{drop, take, Option, Some, None}
 use Rattle.md_engine.specs.declared.event.Event.{Event}
 use Rattle.md_events.specs.declared.inline.Chunk.{Chunk}
 use Rattle.md_events.specs.declared.inline.PartPlace.{PartPlace}
@@ -8,7 +8,7 @@ use Rattle.md_events.specs.Events.Inline.{Part, is_linked, is_none, pieces}
 use Rattle.md_events.specs.Events.Nested.{is_exit}
 use Rattle.md_events.specs.Events.Tiles.{chunks, inside_part, is_part, part_at, part_kind}
 use Rattle.md_events.specs.Substituted.{chunk_of}
-use Rattle.md_events.specs.TextPart.{Document, IsTextPartAt, is_of_block, place_by, place_of}
+use Rattle.md_events.specs.TextPart.{Document, IsTextPartAt, is_of_block, last_of_block, place_by, place_of}
 
 -- whether a chunk begins with an event inside of a text part, by the events after it
 abbrev pub begins_chunk : Event → List Event → Bool
@@ -45,19 +45,25 @@ abbrev pub part_places : Option Event → List Event → List PartPlace
 part_places last [] = []
 part_places last (e ∷ es) = places_at last e es ++ part_places (last_after last e) es
 
--- whether an event is of no block, and neither begins nor ends a text part: it changes no place
-abbrev pub is_inside : Event → Bool
-is_inside e = not (is_of_block e) && not (is_part e.name)
+-- where they are that begin after so many of some events
+abbrev pub places_from : List Event → ℕ → List PartPlace
+places_from blocks at = part_places (last_of_block (take at blocks)) (drop at blocks)
 
--- A part of a document is at the next of some places, of which so many are taken.
-pub record IsNext (document : Document) (places : List PartPlace) (taken : ℕ) (part : Part) : Type 0 where
-  pub within : taken < length places
-  pub at : (other : PartPlace) → IsTextPartAt document part (get_or places taken other)
+-- whether no text part begins with an event
+abbrev pub begins_no_part : Event → Bool
+begins_no_part e = not (not (is_exit e.kind) && is_part e.name)
 
--- how many are taken once a part is begun, unless so many chunks of another part are left
-abbrev pub taken_after : ℕ → ℕ → ℕ
-taken_after zero taken = suc taken
-taken_after (suc more) taken = taken
+-- A part of a document is at the first of some places.
+pub record IsNext (document : Document) (places : List PartPlace) (part : Part) : Type 0 where
+  pub place : PartPlace
+  pub following : List PartPlace
+  pub are : places ≡ place ∷ following
+  pub at : IsTextPartAt document part place
+
+-- the places of the parts that follow once a part is begun, unless so many chunks of another part are left
+abbrev pub places_after : ℕ → List PartPlace → List PartPlace
+places_after zero places = drop 1 places
+places_after (suc more) places = places
 
 -- A text part begins with one of some events, and is at this place.
 pub record IsPartAt (blocks : List Event) (part : Part) (place : PartPlace) : Type 0 where

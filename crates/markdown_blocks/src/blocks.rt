@@ -9,7 +9,7 @@ ghost use Rattle.markdown_blocks.specs.Parsed.{IsSmall, IsWithoutMdx};
 ghost use Rattle.markdown_blocks.specs.PartRead.{AreAllBlocks, labels_of};
 
 use crate::parser::read_front;
-use crate::parts::{LEAST, Part, point_in, read_at_least};
+use crate::parts::{Part, point_in, read_at_least};
 use md_engine::configuration::ParseOptions;
 use md_engine::event::Event;
 use md_engine::message::Message;
@@ -69,17 +69,27 @@ fn add_part(all: &mut Part, part: Part) -> Result<Vec<Event>, Message>
     Ok(spare)
 }
 
-/// Reads the blocks of a text, whose text parts are not read: all events, those of its front first, and all labels.
+/// Notes that a part ends after so many events.
+fn push_end(ends: &mut Vec<usize>, end: usize) -> Result<(), Message> {
+    match ends.push(end) {
+        Ok(()) => Ok(()),
+        Err(_) => Err(Message),
+    }
+}
+
+/// Reads the blocks of a text, whose text parts are not read, in parts of so many bytes at least: all events, those of its
+/// front first, and all labels; and after how many events the front and each part ends.
 ///
 /// An `Err` says that memory ran out.
 pub(crate) fn read_blocks(
     alloc: Global,
     text: &[u8],
     options: &ParseOptions,
-) -> Result<Part, Message>
+    least: usize,
+) -> Result<(Part, Vec<usize>), Message>
     requires small { IsSmall text.now }
     requires built { IsWithoutMdx options.now }
-    ensures { IfOk result (λ all. AreAllBlocks options.now text.now all) }
+    ensures { IfOk result (λ read. AreAllBlocks options.now text.now read.0) }
 {
     let front = read_front(alloc, text, options)?;
     let mut next = point_in(text, front.point);
@@ -88,14 +98,17 @@ pub(crate) fn read_blocks(
         definitions: Vec::new(alloc),
         gfm_footnote_definitions: Vec::new(alloc),
     };
+    let mut ends = Vec::new(alloc);
+    push_end(&mut ends, all.events.len())?;
     let mut spare = Vec::new(alloc);
     while let Some(start) = next {
         if spare.capacity() == 0 {
             spare = with_room(alloc, &text[start.index..])?;
         }
-        let (part, after) = read_at_least(alloc, text, options, start, LEAST, &mut spare)?;
+        let (part, after) = read_at_least(alloc, text, options, start, least, &mut spare)?;
         spare = add_part(&mut all, part)?;
+        push_end(&mut ends, all.events.len())?;
         next = after;
     }
-    Ok(all)
+    Ok((all, ends))
 }

@@ -3,6 +3,7 @@
 
 mod blocks;
 pub mod construct;
+mod definitions;
 pub mod engine;
 pub mod label;
 pub mod parser;
@@ -11,6 +12,7 @@ mod parts;
 mod place;
 pub mod plain;
 pub mod seam;
+mod sink;
 mod text_parts;
 
 pub use md_engine::{configuration, event, message, state, subtokenize, table, tokenizer};

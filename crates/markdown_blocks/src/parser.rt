@@ -1,7 +1,8 @@
 // From a text to events.
 
-ghost use Rattle.std.specs.Prelude.{◌≡◌, ◌≤◌, IfOk, OnOk, [], false, length, map, string_bytes};
+ghost use Rattle.std.specs.Prelude.{◌≡◌, ◌≤◌, IfOk, List, OnOk, [], false, length, map, string_bytes};
 ghost use Rattle.std.specs.List.{prefix_len};
+ghost use Rattle.md_engine.specs.declared.event.Event.{Event};
 ghost use Rattle.md_engine.specs.Found.{found_in, nothing};
 ghost use Rattle.md_engine.specs.World.{world};
 ghost use Rattle.md_content.specs.Joined.{is_content};
@@ -13,7 +14,9 @@ ghost use Rattle.markdown_blocks.specs.Alone.{may_change, passes_alone, stays_by
 ghost use Rattle.markdown_blocks.specs.ContentRead.{AreSideBySide, ReadIf, holds_content};
 ghost use Rattle.markdown_blocks.specs.FlowReads.{IsFlowRead};
 ghost use Rattle.markdown_blocks.specs.FrontRead.{exact_front};
+ghost use Rattle.markdown_blocks.specs.Taken.{AreTaken};
 ghost use Rattle.markdown_blocks.specs.TextsRead.{AreTextsRead, BeginsPart};
+ghost use Rattle.md_events.specs.Events.Inline.{together};
 ghost use Rattle.md_order.specs.Alone.{MayPass};
 ghost use Rattle.md_order.specs.InOrder.{every, in_order};
 ghost use Rattle.proof_container_laws.specs.Footnotes.{footnotes_listed};
@@ -21,10 +24,11 @@ ghost use Rattle.markdown_blocks.specs.Parsed.{IsParsed, IsRead, IsWithoutMdx};
 ghost use Rattle.md_meaning.specs.Wrapped.{IsSmall};
 
 use crate::blocks::read_blocks;
-pub use crate::parts::{Part, Parts};
+pub use crate::parts::{LEAST, Part, Parts};
 pub use crate::place::place_of;
 use crate::plain::Plain;
-use crate::text_parts::read_text_parts;
+pub use crate::sink::{Ahead, Sink};
+use crate::text_parts::{hand_over, read_text_parts};
 use md_content::footnote_labels::footnote_labels;
 use md_engine::configuration::ParseOptions;
 use md_engine::event::{Event, Name, Point};
@@ -363,7 +367,7 @@ pub fn parse_with<'a, I: Inline>(
         (λ parsed. IsRead (I.reads inline.now) value.now options.now parsed.0.items parsed.1) }
 {
     let bytes = value.as_bytes();
-    let blocks = read_blocks(alloc, bytes, options)?;
+    let (blocks, _ends) = read_blocks(alloc, bytes, options, LEAST)?;
     let state = ParseState {
         options,
         bytes,
@@ -372,6 +376,47 @@ pub fn parse_with<'a, I: Inline>(
     };
     let events = read_text_parts(alloc, inline, &state, blocks.events)?;
     Ok((events, state))
+}
+
+/// Reads a text as `parse_with` does, and hands its events over part by part. So memory follows the blocks of the text
+/// and the largest part, and what the layer finds in a part is taken while it lies in a cache.
+///
+/// The parts, one after the other, are the events that `parse_with` may return. Each is of whole blocks of so many bytes
+/// at least (`LEAST` is a good number), and ends where one of `Parts` does; the byte order mark and the frontmatter are
+/// one of their own. The last may have no event.
+///
+/// What is asked of the text and of the options is as for `parse_with`. An `Err` says that memory ran out, or is that of
+/// the sink; some parts may have been handed over before it.
+pub fn parse_into<'a, I: Inline, S: Sink>(
+    alloc: Global,
+    inline: &I,
+    value: &'a str,
+    options: &'a ParseOptions,
+    least: usize,
+    sink: &mut S,
+) -> Result<ParseState<'a>, Message>
+    requires size { IsSmall value.now }
+    requires built { IsWithoutMdx options.now }
+    ensures { IfOk result
+        (λ state.
+        (parts : List (List Event)) × AreTaken S.takes sink.old parts sink.new
+        × IsRead (I.reads inline.now) value.now options.now (together parts) state) }
+{
+    let bytes = value.as_bytes();
+    let (blocks, ends) = read_blocks(alloc, bytes, options, least)?;
+    let Part {
+        events,
+        definitions,
+        gfm_footnote_definitions,
+    } = blocks;
+    let state = ParseState {
+        options,
+        bytes,
+        definitions,
+        gfm_footnote_definitions,
+    };
+    hand_over(alloc, inline, &state, &events, &ends, sink)?;
+    Ok(state)
 }
 
 /// Reads a text, its text parts by the plain layer, which finds nothing in them: its events, and what else is known of

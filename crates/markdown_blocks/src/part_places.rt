@@ -1,19 +1,18 @@
 // Where each text part of a document is, in the order of the text: in a cell of a table, in the paragraph that is the
 // first block of an item, or elsewhere.
 
-ghost use Rattle.std.specs.Prelude.{◌≡◌, ◌&&◌, ◌++◌, IfOk, None, OnOk, option_copied};
+ghost use Rattle.std.specs.Prelude.{◌≡◌, ◌≤◌, ◌&&◌, ◌∷◌, List, None, length, option_copied};
+ghost use Rattle.md_events.specs.declared.inline.PartPlace.{PartPlace};
 ghost use Rattle.md_events.specs.Events.Nested.{is_exit};
 ghost use Rattle.md_events.specs.Events.Tiles.{is_part};
-ghost use Rattle.md_events.specs.TextPart.{is_new_item, place_by};
-ghost use Rattle.markdown_blocks.specs.PartPlaces.{begins_chunk, begins_part, holds_chunk, is_inside, last_after, part_places};
-ghost use Rattle.markdown_blocks.specs.PartPlaces.{places_at};
+ghost use Rattle.md_events.specs.TextPart.{is_new_item, last_of_block, place_by};
+ghost use Rattle.markdown_blocks.specs.PartPlaces.{begins_chunk, begins_no_part, chunk_at, holds_chunk, last_after};
+ghost use Rattle.markdown_blocks.specs.PartPlaces.{part_places, places_from};
 
 use md_engine::event::{Event, Kind, Name};
-use md_engine::message::Message;
-use md_events::inline::PartPlace;
+use md_events::inline::{Chunk, PartPlace};
 use md_events::names::{is_block, is_text_part};
 use md_events::walks::{Test, passing};
-use std::alloc::Global;
 
 /// Whether an item has begun, and in it no block yet, by the last event of a block.
 fn is_new_item(last: Option<&Event>) -> bool
@@ -37,7 +36,7 @@ pub(crate) fn place_by(last: Option<&Event>, name: Name) -> PartPlace
 }
 
 /// Whether a chunk begins with an event inside of a text part, by the events after it.
-pub(crate) fn begins_chunk(event: &Event, following: &[Event]) -> bool
+fn begins_chunk(event: &Event, following: &[Event]) -> bool
     ensures { result ≡ begins_chunk event.now following.now }
 {
     match following {
@@ -48,6 +47,19 @@ pub(crate) fn begins_chunk(event: &Event, following: &[Event]) -> bool
                 && !is_text_part(next.name)
         }
         [] => false,
+    }
+}
+
+/// The chunk that begins with an event inside of a text part, by the events after it, if one does.
+pub(crate) fn chunk_at(event: &Event, following: &[Event]) -> Option<Chunk>
+    ensures { result ≡ chunk_at event.now following.now }
+{
+    match following {
+        [next, ..] if begins_chunk(event, following) => Some(Chunk {
+            first: event.point,
+            after: next.point,
+        }),
+        _ => None,
     }
 }
 
@@ -75,13 +87,6 @@ fn holds_chunk(following: &[Event]) -> bool
     false
 }
 
-/// Whether a text part that has a chunk begins with an event.
-fn begins_part(event: &Event, following: &[Event]) -> bool
-    ensures { result ≡ begins_part event.now following.now }
-{
-    matches!(event.kind, Kind::Enter) && is_text_part(event.name) && holds_chunk(following)
-}
-
 /// The last event of a block, an event later.
 pub(crate) fn last_after<'a>(last: Option<&'a Event>, event: &'a Event) -> Option<&'a Event>
     ensures { option_copied result ≡ last_after (option_copied last.entry) event.now }
@@ -93,54 +98,78 @@ pub(crate) fn last_after<'a>(last: Option<&'a Event>, event: &'a Event) -> Optio
     }
 }
 
-/// Adds where the text part is that begins with an event, if one does.
-fn push_place(
-    places: &mut Vec<PartPlace>,
-    last: Option<&Event>,
-    event: &Event,
-    following: &[Event],
-) -> Result<(), Message>
-    ensures { OnOk result
-        (places.new.items ≡ places.old.items ++ places_at (option_copied last.entry) event.now following.now) }
+/// The last event of a block among some events, which is looked for from the end.
+fn last_of_block(events: &[Event]) -> Option<&Event>
+    ensures { option_copied result ≡ last_of_block events.now }
 {
-    if begins_part(event, following) && places.push(place_by(last, event.name)).is_err() {
-        return Err(Message);
+    let mut at = events.len();
+    while at > 0 {
+        at -= 1;
+        if is_block(events[at].name) {
+            return Some(&events[at]);
+        }
     }
-    Ok(())
+    None
 }
 
-/// Whether an event is of no block, and neither begins nor ends a text part.
-#[inline(always)]
-fn is_inside(event: &Event) -> bool
-    ensures { result ≡ is_inside event.now }
+/// Where a text part of this name is, by the events before it.
+fn place_after(before: &[Event], name: Name) -> PartPlace
+    ensures { result ≡ place_by (last_of_block before.now) name }
 {
-    !is_block(event.name) && !is_text_part(event.name)
+    match name {
+        Name::Paragraph => place_by(last_of_block(before), name),
+        _ => place_by(None, name),
+    }
 }
 
-/// That as a test.
-struct IsInside;
+/// That an event is not the begin of a text part, as a test.
+struct BeginsNoPart;
 
-impl Test for IsInside {
-    ghost passes = { λ test. is_inside };
+impl Test for BeginsNoPart {
+    ghost passes = { λ test. begins_no_part };
 
     #[inline(always)]
     fn passes(&self, event: &Event) -> bool {
-        is_inside(event)
+        !(matches!(event.kind, Kind::Enter) && is_text_part(event.name))
     }
 }
 
-/// Where the text parts of a document are that have chunks, by its events. An `Err` says that memory ran out.
-pub fn places_of(alloc: Global, events: &[Event]) -> Result<Vec<PartPlace>, Message>
-    ensures { IfOk result (λ places. places.items ≡ part_places None events.now) }
-{
-    let mut places = Vec::new(alloc);
-    let mut last = None;
-    let mut left = events;
-    while let [event, rest @ ..] = left {
-        push_place(&mut places, last, event, rest)?;
-        last = last_after(last, event);
-        let many = passing(&IsInside, rest);
-        left = rest.split_at(many).1;
+/// Where the text parts are that have chunks, in the order of the text. A part is looked for where its place is asked
+/// for.
+#[derive(Drop)]
+pub(crate) struct Places<'a> {
+    blocks: &'a [Event],
+    /// Before how many events the next part is looked for no more.
+    at: usize,
+    ghost within: { at ≤ length blocks.now },
+}
+
+impl<'a> Places<'a> {
+    /// The places of all parts of these blocks.
+    pub(crate) fn of(blocks: &'a [Event]) -> Places<'a>
+        ensures { places_from result.blocks.now result.at ≡ part_places None blocks.now }
+    {
+        Places { blocks, at: 0 }
     }
-    Ok(places)
+
+    /// Where the next part is, if there is one.
+    pub(crate) fn next(&mut self) -> PartPlace
+        ensures { (place : PartPlace) (following : List PartPlace) →
+            places_from self.old.blocks.now self.old.at ≡ place ∷ following →
+            (result ≡ place) × (places_from self.new.blocks.now self.new.at ≡ following) }
+    {
+        while self.at < self.blocks.len() {
+            let at = self.at + passing(&BeginsNoPart, &self.blocks[self.at..]);
+            let (before, rest) = self.blocks.split_at(at);
+            self.at = at;
+            let [begin, following @ ..] = rest else {
+                break;
+            };
+            self.at = at + 1;
+            if holds_chunk(following) {
+                return place_after(before, begin.name);
+            }
+        }
+        PartPlace::Elsewhere
+    }
 }

@@ -58,8 +58,8 @@ use md_scan::bytes::is_white;
 use std::alloc::Global;
 use std::mem;
 
-/// How many bytes a part has at least, if the text has as many.
-pub(crate) const LEAST: usize = 64 * 1024;
+/// How many bytes a part has at least, if the text has as many and nothing else is asked for.
+pub const LEAST: usize = 64 * 1024;
 
 /// For so many bytes more a part is tried to end after a paragraph alone: few other lines show by themselves that they
 /// are the last of a block.

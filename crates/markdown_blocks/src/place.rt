@@ -4,10 +4,11 @@ ghost use Rattle.std.specs.Prelude.{◌≡◌, ◌∷◌, [], IfOk, IfSome, true
 ghost use Rattle.md_events.specs.Events.Tiles.{part_at, part_kind};
 ghost use Rattle.md_events.specs.TextPart.{IsTextPart, document_of};
 ghost use Rattle.markdown_blocks.specs.Parsed.{IsWithoutMdx};
-ghost use Rattle.markdown_blocks.specs.PartPlaces.{IsPartAt, IsPlaceOf, chunk_at, chunks_in};
+ghost use Rattle.markdown_blocks.specs.PartPlaces.{IsPartAt, IsPlaceOf, chunks_in};
 
 use crate::blocks::read_blocks;
-use crate::part_places::{begins_chunk, ends_part, last_after, place_by};
+use crate::part_places::{chunk_at, ends_part, last_after, place_by};
+use crate::parts::LEAST;
 use md_engine::configuration::ParseOptions;
 use md_engine::event::{Event, Kind, Name};
 use md_engine::message::Message;
@@ -24,19 +25,6 @@ fn part_kind(name: Name) -> Option<PartKind>
         Name::Paragraph | Name::HeadingAtxText | Name::HeadingSetextText | Name::GfmTableCellText =>
             Some(PartKind::Text),
         name if is_text_part(name) => Some(PartKind::String),
-        _ => None,
-    }
-}
-
-/// The chunk that begins with an event inside of a text part, by the events after it, if one does.
-fn chunk_at(event: &Event, following: &[Event]) -> Option<Chunk>
-    ensures { result ≡ chunk_at event.now following.now }
-{
-    match following {
-        [next, ..] if begins_chunk(event, following) => Some(Chunk {
-            first: event.point,
-            after: next.point,
-        }),
         _ => None,
     }
 }
@@ -127,7 +115,7 @@ pub fn place_of(
     if !is_without_mdx(state.options) {
         return Err(Message);
     }
-    let blocks = read_blocks(alloc, state.bytes, state.options)?;
+    let (blocks, _ends) = read_blocks(alloc, state.bytes, state.options, LEAST)?;
     match place_among(&blocks.events, kind, chunks) {
         Some(place) => Ok(place),
         None => Err(Message),

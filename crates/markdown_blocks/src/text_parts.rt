@@ -3,24 +3,31 @@
 // A layer that finds nothing but lines is asked for no part: the parser reads the lines itself. Any other layer is asked
 // for each part once it is known where all parts are, with the labels of the document made ready to be looked up.
 
-ghost use Rattle.std.specs.Prelude.{◌≡◌, ◌<◌, IfOk, None, OnOk, [], drop, length};
+ghost use Rattle.std.specs.Prelude.{◌≡◌, ◌+◌, ◌-◌, ◌<◌, ◌≤◌, ◌++◌, IfOk, List, None, OnOk, [], drop, length, suc, take};
+ghost use Rattle.std.specs.List.{prefix_len};
+ghost use Rattle.md_engine.specs.declared.event.Event.{Event};
+ghost use Rattle.md_events.specs.Events.Inline.{together};
 ghost use Rattle.md_events.specs.Parts.{ArePlaced};
-ghost use Rattle.md_events.specs.Substituted.{Begun, Substituted, chunks_from, stays, wanted};
-ghost use Rattle.md_events.specs.TextPart.{AreBlocks, AreLabelsOf, IsTextPart, IsTextPartAt, document_of};
+ghost use Rattle.md_events.specs.Substituted.{Begun, Substituted, belongs, chunks_from, share, stays, wanted};
+ghost use Rattle.md_events.specs.TextPart.{AreBlocks, AreLabelsOf, IsTextPart, document_of};
 ghost use Rattle.md_events.specs.TextPart.{text_kind, text_readings, wants_text};
-ghost use Rattle.markdown_blocks.specs.PartPlaces.{IsNext, part_places, taken_after};
+ghost use Rattle.markdown_blocks.specs.Taken.{AreHanded, AreTaken};
+ghost use Rattle.markdown_blocks.specs.PartPlaces.{IsNext, places_after, places_from};
 
-use crate::part_places::places_of;
+use crate::definitions::read_definitions;
+use crate::part_places::Places;
+use crate::sink::{Ahead, All, Sink};
 use md_engine::event::{Content, Event, Kind};
 use md_engine::message::Message;
 use md_engine::parse_state::ParseState;
-use md_events::inline::{Chunk, Inline, PartKind, PartPlace, TextPart};
+use md_events::inline::{Chunk, Inline, PartKind, TextPart};
 use md_events::labels::Labels;
+use md_events::moving::append;
 use md_events::names::is_prefix;
-use md_events::rewriting::Rewriting;
-use md_events::subtokenize::{Found, Reader, push_chunk, subtokenize};
+use md_events::subtokenize::{Reader, push_chunk, subtokenize};
 use md_events::walks::{Test, passing};
 use std::alloc::Global;
+use std::mem;
 
 /// What a part of this content may hold.
 fn kind_of(content: Content) -> PartKind
@@ -85,56 +92,9 @@ impl<I: Inline> Reader for TextReader<'_, '_, I> {
 
 /// A layer, and what is known of the document whose text parts it reads.
 #[derive(Drop)]
-struct TextParts<'a, 'b, 'c, I: Inline> {
+struct TextParts<'a, 'b, 'c, 'd, I: Inline> {
     inline: &'b I,
-    state: &'b ParseState<'a>,
-    labels: &'c Labels<'b>,
-    places: &'c [PartPlace],
-}
-
-/// Reads a text part that is at this place.
-#[derive(Drop)]
-struct PartReader<'a, 'b, 'c, 'd, I: Inline> {
-    parts: &'d TextParts<'a, 'b, 'c, I>,
-    place: PartPlace,
-}
-
-impl<I: Inline> Reader for PartReader<'_, '_, '_, '_, I> {
-    ghost text = { λ reader. reader.parts.now.state.now.bytes.now };
-
-    ghost wants = { λ reader. wants_text };
-
-    ghost may_read = { λ reader content chunks. IsTextPartAt (document_of reader.parts.now.state.now)
-        (record { kind = text_kind content; chunks = chunks }) reader.place
-        × AreLabelsOf (document_of reader.parts.now.state.now) reader.parts.now.labels.now };
-
-    ghost reads_as = { λ reader content chunks events. I.reads reader.parts.now.inline.now
-        (document_of reader.parts.now.state.now) (record { kind = text_kind content; chunks = chunks }) events };
-
-    fn reads(&self, content: Content) -> bool {
-        is_wanted(content)
-    }
-
-    fn read(
-        &self,
-        alloc: Global,
-        content: Content,
-        chunks: &[Chunk],
-        events: &mut Vec<Event>,
-    ) -> Result<(), Message> {
-        let part = TextPart {
-            kind: kind_of(content),
-            place: self.place,
-            chunks,
-        };
-        let TextParts {
-            inline,
-            state,
-            labels,
-            ..
-        } = self.parts;
-        inline.read_part(alloc, part, state, labels, events)
-    }
+    ahead: &'d Ahead<'a, 'b, 'c>,
 }
 
 /// What the chunk of a text part holds that begins with an event, if one does.
@@ -179,118 +139,296 @@ fn list_chunks(chunks: &mut Vec<Chunk>, events: &[Event]) -> Result<(), Message>
     Ok(())
 }
 
-/// Reads the text part that begins with these events, unless chunks of another part are left. Returns how many places
-/// are taken then.
+/// What the layer has read of a part.
+#[derive(Drop)]
+struct Answer {
+    events: Vec<Event>,
+    /// How many of them are in their place.
+    placed: usize,
+    /// How many chunks of the part are left.
+    chunks: usize,
+    ghost within: { placed ≤ length events.items },
+}
+
+/// Whether an event belongs to a chunk that ends at a byte, or to one before it: it begins before that byte, or ends
+/// there at last.
+#[derive(Drop)]
+struct Belongs {
+    end: usize,
+}
+
+impl Test for Belongs {
+    ghost passes = { λ test. belongs test.end };
+
+    fn passes(&self, event: &Event) -> bool {
+        match event.kind {
+            Kind::Enter => event.point.index < self.end,
+            Kind::Exit => event.point.index <= self.end,
+        }
+    }
+}
+
+impl Answer {
+    /// Nothing, read of no chunk.
+    fn nothing(alloc: Global) -> Answer
+        ensures events { result.events.items ≡ [] }
+        ensures placed { result.placed ≡ 0 }
+        ensures chunks { result.chunks ≡ 0 }
+    {
+        Answer {
+            events: Vec::new(alloc),
+            placed: 0,
+            chunks: 0,
+        }
+    }
+
+    /// Appends what belongs to the next chunk, which ends at the byte `end`.
+    #[inline(always)]
+    fn place(&mut self, all: &mut Vec<Event>, end: usize) -> Result<(), Message>
+        requires { 0 < self.old.chunks }
+        ensures chunks { OnOk result (self.new.chunks + 1 ≡ self.old.chunks) }
+        ensures placed { let left = drop self.old.placed self.old.events.items in
+            OnOk result
+            (all.new.items ≡ all.old.items ++ take (share (self.old.chunks - 1) left end) left) }
+        ensures left { let left = drop self.old.placed self.old.events.items in
+            OnOk result (drop self.new.placed self.new.events.items ≡ drop (share (self.old.chunks - 1) left end)
+            left) }
+    {
+        let left = &self.events[self.placed..];
+        let many = if self.chunks > 1 {
+            passing(&Belongs { end }, left)
+        } else {
+            left.len()
+        };
+        append(all, &left[..many])?;
+        self.placed += many;
+        self.chunks -= 1;
+        Ok(())
+    }
+}
+
+/// Reads the text part that begins with these events, unless chunks of another part are left. It is at the next of the
+/// places.
 fn or_read<I: Inline>(
     alloc: Global,
     parts: &TextParts<I>,
-    found: &mut Found,
+    places: &mut Places,
+    found: &mut Answer,
     chunks: &mut Vec<Chunk>,
-    taken: usize,
     content: Content,
     events: &[Event],
-) -> Result<usize, Message>
+) -> Result<(), Message>
     requires within { 1 < length events.now }
-    requires placed { ArePlaced parts.now.state.now.bytes.now events.now }
-    requires found { ArePlaced parts.now.state.now.bytes.now found.old.events.items }
-    requires labels { AreLabelsOf (document_of parts.now.state.now) parts.now.labels.now }
+    requires labels { AreLabelsOf (document_of parts.now.ahead.now.state.now) parts.now.ahead.now.labels.now }
     requires next { found.old.chunks ≡ 0 →
-        IsNext (document_of parts.now.state.now) parts.now.places.now taken
+        IsNext (document_of parts.now.ahead.now.state.now) (places_from places.old.blocks.now places.old.at)
         (record { kind = text_kind content; chunks = chunks_from wants_text events.now }) }
-    ensures chunks { IfOk result (λ now. 0 < found.new.chunks) }
-    ensures placed { IfOk result (λ now. ArePlaced parts.now.state.now.bytes.now found.new.events.items) }
-    ensures taken { IfOk result (λ now. now ≡ taken_after found.old.chunks taken) }
-    ensures begun { let reads = text_readings (I.reads parts.now.inline.now (document_of parts.now.state.now)) in
-        IfOk result
-        (λ now.
-        Begun (reads content (chunks_from wants_text events.now)) (length (chunks_from wants_text events.now))
+    ensures chunks { OnOk result (0 < found.new.chunks) }
+    ensures places { OnOk result
+        (places_from places.new.blocks.now places.new.at ≡
+        places_after found.old.chunks (places_from places.old.blocks.now places.old.at)) }
+    ensures begun { let reads = text_readings (I.reads parts.now.inline.now (document_of parts.now.ahead.now.state.now)) in
+        OnOk result
+        (Begun (reads content (chunks_from wants_text events.now)) (length (chunks_from wants_text events.now))
         (drop found.old.placed found.old.events.items) found.old.chunks
         (drop found.new.placed found.new.events.items) found.new.chunks) }
 {
-    if found.is_begun() {
-        return Ok(taken);
+    if found.chunks > 0 {
+        return Ok(());
     }
     list_chunks(chunks, events)?;
-    let reader = PartReader {
-        parts,
-        place: parts.places[taken],
+    let part = TextPart {
+        kind: kind_of(content),
+        place: places.next(),
+        chunks,
     };
-    found.read(alloc, &reader, content, chunks)?;
-    Ok(taken + 1)
+    let inline = parts.inline;
+    let Ahead { state, labels, .. } = parts.ahead;
+    found.placed = 0;
+    inline.read_part(alloc, part, state, labels, &mut found.events)?;
+    found.chunks = chunks.len();
+    Ok(())
 }
 
-/// The events with what the layer reads in the places of the text parts, in the list of the events.
-fn read_each<I: Inline>(
+/// How many of so many events are left after the next of some ends before which some of those that are left now are; none
+/// where there is no such end. Returns the further ends, too.
+fn next_stop(all: usize, ends: &[usize], left: usize) -> (usize, &[usize])
+    ensures { 0 < left → result.0 < left }
+{
+    let mut further = ends;
+    while let [end, rest @ ..] = further {
+        further = rest;
+        let stop = all.saturating_sub(*end);
+        if stop < left {
+            return (stop, further);
+        }
+    }
+    (0, further)
+}
+
+/// After how many events parts end.
+#[derive(Drop)]
+struct Ends<'e> {
+    /// How many events there are.
+    all: usize,
+    /// How many are left where the part ends that is read.
+    stop: usize,
+    /// After how many the parts end that follow it.
+    further: &'e [usize],
+}
+
+/// Hands a part over, if it ends here, where so many events are left.
+fn end_part<S: Sink>(
+    alloc: Global,
+    ahead: &Ahead,
+    ends: &mut Ends,
+    left: usize,
+    list: &mut Vec<Event>,
+    sink: &mut S,
+) -> Result<(), Message>
+    requires { 0 < left }
+    ensures stop { OnOk result (ends.new.stop < left) }
+    ensures handed { OnOk result
+        ((first : S) (events : List Event) → AreHanded S.takes first sink.old list.old.items events →
+        AreHanded S.takes first sink.new list.new.items events) }
+{
+    if left > ends.stop {
+        return Ok(());
+    }
+    let events = mem::replace(list, Vec::new(alloc));
+    let mut spare = sink.take(ahead, events)?;
+    spare.clear();
+    *list = spare;
+    let (stop, further) = next_stop(ends.all, ends.further, left);
+    ends.stop = stop;
+    ends.further = further;
+    Ok(())
+}
+
+/// How many of these events stay, of so many in front at most. The first is known to.
+fn staying(events: &[Event], most: usize) -> usize
+    requires { (0 < most) × (most ≤ length events.now) }
+    ensures some { 0 < result }
+    ensures within { result ≤ length events.now }
+    ensures stay { result ≤ suc (prefix_len (stays wants_text) (drop 1 events.now)) }
+{
+    1 + passing(&Stays, &events[1..most])
+}
+
+/// Hands events over part by part, with what the layer reads in the places of their text parts. A part ends after each
+/// of these numbers of events, and after the last event.
+fn read_each<I: Inline, S: Sink>(
     alloc: Global,
     parts: &TextParts<I>,
-    events: Vec<Event>,
-) -> Result<Vec<Event>, Message>
-    requires are { AreBlocks (document_of parts.now.state.now) events.items }
-    requires labels { AreLabelsOf (document_of parts.now.state.now) parts.now.labels.now }
-    requires places { parts.now.places.now ≡ part_places None events.items }
-    ensures { let reads = text_readings (I.reads parts.now.inline.now (document_of parts.now.state.now)) in
-        IfOk result (λ all. Substituted wants_text reads [] 0 events.items all.items) }
+    events: &[Event],
+    ends: &[usize],
+    sink: &mut S,
+) -> Result<(), Message>
+    requires are { AreBlocks (document_of parts.now.ahead.now.state.now) events.now }
+    requires labels { AreLabelsOf (document_of parts.now.ahead.now.state.now) parts.now.ahead.now.labels.now }
+    ensures { let reads = text_readings (I.reads parts.now.inline.now (document_of parts.now.ahead.now.state.now)) in
+        OnOk result
+        ((all : List (List Event)) × AreTaken S.takes sink.old all sink.new
+        × Substituted wants_text reads [] 0 events.now (together all)) }
 {
-    let mut all = Rewriting::new(events);
-    let mut found = Found::nothing(alloc);
+    let mut found = Answer::nothing(alloc);
     let mut chunks = Vec::new(alloc);
-    let mut taken = 0;
-    while let Some(event) = all.first() {
-        match text_content(&event) {
-            Some(content) if all.left().len() > 1 => {
-                let now = or_read(
+    let mut places = Places::of(events);
+    let mut list = Vec::new(alloc);
+    let mut left = events;
+    let (stop, further) = next_stop(events.len(), ends, left.len());
+    let mut ends = Ends {
+        all: events.len(),
+        stop,
+        further,
+    };
+    while let [event, ..] = left {
+        end_part(alloc, parts.ahead, &mut ends, left.len(), &mut list, sink)?;
+        match text_content(event) {
+            Some(content) if left.len() > 1 => {
+                or_read(
                     alloc,
                     parts,
+                    &mut places,
                     &mut found,
                     &mut chunks,
-                    taken,
                     content,
-                    all.left(),
+                    left,
                 )?;
-                let end = all.left()[1].point.index;
-                all.skip(2);
-                found.place(&mut all, end)?;
-                taken = now;
+                found.place(&mut list, left[1].point.index)?;
+                left = &left[2..];
             }
             _ => {
-                let many = 1 + passing(&Stays, &all.left()[1..]);
-                all.hold_many(many);
+                let many = staying(left, left.len() - ends.stop);
+                let (front, following) = left.split_at(many);
+                append(&mut list, front)?;
+                left = following;
             }
         }
     }
-    all.give();
-    Ok(all.finish())
+    let _spare = sink.take(parts.ahead, list)?;
+    Ok(())
 }
 
-/// The events with what the layer reads in the places of the text parts. It is asked for each part with its place, and
-/// with the labels of the document.
+/// The definitions among the blocks of a text, if they are wanted and there are some.
 ///
 /// An `Err` says that memory ran out.
-fn read_placed<'x, I: Inline>(
+fn definitions_ahead<I: Inline>(
+    alloc: Global,
+    inline: &I,
+    state: &ParseState,
+    labels: &Labels,
+    blocks: &[Event],
+    are_wanted: bool,
+) -> Result<Vec<Event>, Message>
+    requires are { AreBlocks (document_of state.now) blocks.now }
+    requires labels { AreLabelsOf (document_of state.now) labels.now }
+{
+    if are_wanted && !state.definitions.is_empty() {
+        read_definitions(alloc, inline, state, labels, blocks)
+    } else {
+        Ok(Vec::new(alloc))
+    }
+}
+
+/// Hands the events of a text over part by part, with what the layer reads in the places of the text parts. It is asked
+/// for each part with its place, and with the labels of the document. Each part ends after one of these numbers of
+/// events, and the last after all.
+///
+/// An `Err` says that memory ran out, or is that of the sink.
+pub(crate) fn hand_over<'x, I: Inline, S: Sink>(
     alloc: Global,
     inline: &'x I,
     state: &'x ParseState,
-    events: Vec<Event>,
-) -> Result<Vec<Event>, Message>
-    requires { AreBlocks (document_of state.now) events.items }
+    events: &[Event],
+    ends: &[usize],
+    sink: &mut S,
+) -> Result<(), Message>
+    requires { AreBlocks (document_of state.now) events.now }
     ensures { let reads = text_readings (I.reads inline.now (document_of state.now)) in
-        IfOk result (λ all. Substituted wants_text reads [] 0 events.items all.items) }
+        OnOk result
+        ((all : List (List Event)) × AreTaken S.takes sink.old all sink.new
+        × Substituted wants_text reads [] 0 events.now (together all)) }
 {
+    let wants = sink.wants_definitions();
     let labels = Labels::new(alloc, &state.definitions, &state.gfm_footnote_definitions)?;
-    let places = places_of(alloc, &events)?;
-    let parts = TextParts {
-        inline,
+    let definitions = definitions_ahead(alloc, inline, state, &labels, events, wants)?;
+    let ahead = Ahead {
         state,
         labels: &labels,
-        places: &places,
+        definitions: &definitions,
     };
-    read_each(alloc, &parts, events)
+    let parts = TextParts {
+        inline,
+        ahead: &ahead,
+    };
+    read_each(alloc, &parts, events, ends, sink)
 }
 
 /// The events of a text with what the layer reads in the places of the text parts.
 ///
 /// An `Err` says that memory ran out.
-pub fn read_text_parts<'x, I: Inline>(
+pub(crate) fn read_text_parts<'x, I: Inline>(
     alloc: Global,
     inline: &'x I,
     state: &'x ParseState,
@@ -304,5 +442,9 @@ pub fn read_text_parts<'x, I: Inline>(
     if inline.is_plain() {
         return subtokenize(alloc, &TextReader { inline, state }, events);
     }
-    read_placed(alloc, inline, state, events)
+    let mut all = All {
+        events: Vec::new(alloc),
+    };
+    hand_over(alloc, inline, state, &events, &[], &mut all)?;
+    Ok(all.events)
 }

@@ -1,4 +1,4 @@
-use Rattle.std.proofs.Common.{◌≡◌, ℕ, List, ap₂, arith, map, subst, sym}
+use Rattle.std.proofs.Common.{List, ap₂, arith, map, subst, sym}
 use Rattle.std.specs.Prelude.{Option}
 use Rattle.std.specs.String.{string_bytes}
 use Rattle.md_engine.specs.declared.event.Point.{Point}

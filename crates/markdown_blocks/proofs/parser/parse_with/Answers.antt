@@ -1,6 +1,5 @@
 use Rattle.std.proofs.Common.{◌≡◌, ◌^◌, ◌<◌, ℕ, List, length, ap, sym, subst, arith}
 use Rattle.std.specs.Str.{IsUtf8}
-use Rattle.md_engine.specs.declared.event.Event.{Event}
 use Rattle.md_engine.specs.declared.parse_state.ParseState.{ParseState}
 use Rattle.md_events.specs.TextPart.{document_of}
 use Rattle.md_meaning.specs.Label.{Labels}

@@ -1,4 +1,4 @@
-use Rattle.std.proofs.Common.{◌≡◌, ℕ, List, ap, arith, refl, ◌∙◌}
+use Rattle.std.proofs.Common.{◌≡◌, ap, arith, refl, ◌∙◌}
 use Rattle.md_engine.specs.Found.{found_in}
 use Rattle.md_engine.specs.World.{Setting, world}
 use Rattle.proof_container_laws.specs.Footnotes.{footnotes_listed}

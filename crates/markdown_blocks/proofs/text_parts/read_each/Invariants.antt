@@ -1,21 +1,23 @@
-use Rattle.std.proofs.Common.{drop, length}
-use Rattle.md_events.specs.Parts.{ArePlaced}
-use Rattle.md_events.specs.Rewritten.{given_of, left_of}
+use Rattle.std.proofs.Common.{List, drop, length}
+use Rattle.md_engine.specs.declared.event.Event.{Event}
 use Rattle.md_events.specs.TextPart.{document_of, text_readings, wants_text}
 use Rattle.md_events.proofs.SubstitutedLemmas.{Leads}
+use Rattle.markdown_blocks.specs.PartPlaces.{places_from}
+use Rattle.markdown_blocks.specs.Taken.{AreHanded}
 use Rattle.markdown_blocks.proofs.PartWalk.{AreNext}
 use Rattle.markdown_blocks.proofs.text_parts.read_each.Given as goal
 
-abbrev pub invariant-loop-event : goal.invariant-loop-event
-invariant-loop-event g l = record {
-  left : ArePlaced l.parts.state.now.bytes.now (left_of l.all);
-  found : ArePlaced l.parts.state.now.bytes.now l.found.events.items;
+abbrev pub invariant-loop-left : goal.invariant-loop-left
+invariant-loop-left g l = record {
+  given : List Event;
+  handed : AreHanded g.S.Sink.takes l.fn.sink l.sink l.list.items given;
   substituted :
-      Leads wants_text (text_readings (g.I.Inline.reads l.parts.inline.now (document_of l.parts.state.now)))
-      l.fn.events.items (drop l.found.placed l.found.events.items) l.found.chunks (left_of l.all) (given_of l.all);
+      Leads wants_text (text_readings (g.I.Inline.reads l.parts.inline.now (document_of l.parts.ahead.now.state.now)))
+      l.events (drop l.found.placed l.found.events.items) l.found.chunks l.left given;
   ahead :
-      AreNext (document_of l.parts.state.now) l.parts.places.now l.taken l.found.chunks (left_of l.all);
+      AreNext (document_of l.parts.ahead.now.state.now) (places_from l.places.blocks.now l.places.at)
+      l.found.chunks l.left;
 }
 
-abbrev pub decreases-loop-event : goal.decreases-loop-event
-decreases-loop-event g l = length (left_of l.all)
+abbrev pub decreases-loop-left : goal.decreases-loop-left
+decreases-loop-left g l = length l.left
