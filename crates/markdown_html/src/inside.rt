@@ -20,9 +20,7 @@ use std::alloc::Global;
 pub(crate) struct Inside {
     /// The code that is open, or a string.
     scratch: Writer,
-    /// How many links and images and calls have begun.
-    media: usize,
-    /// How many of them are calls.
+    /// How many calls have begun.
     calls: usize,
     /// How many links are open, from the one on that is written.
     links: usize,
@@ -52,7 +50,6 @@ impl Inside {
     pub(crate) fn new(alloc: Global) -> Inside {
         Inside {
             scratch: Writer::new(alloc),
-            media: 0,
             calls: 0,
             links: 0,
             images: 0,
@@ -74,7 +71,7 @@ impl Inside {
     }
 
     /// Whether text is written that is here.
-    fn is_shown(&self, around: Around) -> bool {
+    pub(crate) fn is_shown(&self, around: Around) -> bool {
         around.is_text && !self.is_hidden
     }
 
@@ -83,11 +80,18 @@ impl Inside {
         around.is_text && !self.is_hidden && self.images == 0
     }
 
-    /// Begins a part.
-    pub(crate) fn enter(&mut self, known: &Known, out: &mut Writer, event: &Event, around: Around) {
+    /// Begins a part; a link or an image leads to this target.
+    pub(crate) fn enter(
+        &mut self,
+        known: &Known,
+        out: &mut Writer,
+        event: &Event,
+        target: Option<Target>,
+        around: Around,
+    ) {
         match event.name {
-            Name::Link => self.begin_link(known, out, around),
-            Name::Image => self.begin_image(known, out, around),
+            Name::Link => self.begin_link(known, out, target, around),
+            Name::Image => self.begin_image(known, out, target, around),
             Name::GfmFootnoteCall => self.begin_call(known, out, around),
             Name::Resource | Name::Reference => self.is_hidden = true,
             Name::CodeText | Name::MathText => {
@@ -98,13 +102,6 @@ impl Inside {
             Name::GfmTaskListItemValueChecked => self.is_checked = true,
             _ if self.is_tagged(around) => out.push(begin_phrase(event.name)),
             _ => {}
-        }
-    }
-
-    /// Writes a piece of text.
-    pub(crate) fn push_text(&mut self, out: &mut Writer, piece: &[u8], around: Around) {
-        if self.is_shown(around) {
-            out.push_escaped(piece);
         }
     }
 
@@ -177,18 +174,13 @@ impl Inside {
         }
     }
 
-    /// Where the link or image leads that begins here.
-    fn next_target(&mut self, known: &Known) -> Option<Target> {
-        let place = self.media;
-        self.media = place.saturating_add(1);
-        match known.targets.get(place) {
-            Some(target) => *target,
-            None => None,
-        }
-    }
-
-    fn begin_link(&mut self, known: &Known, out: &mut Writer, around: Around) {
-        let target = self.next_target(known);
+    fn begin_link(
+        &mut self,
+        known: &Known,
+        out: &mut Writer,
+        target: Option<Target>,
+        around: Around,
+    ) {
         if !self.is_tagged(around) {
             return;
         }
@@ -213,8 +205,13 @@ impl Inside {
         }
     }
 
-    fn begin_image(&mut self, known: &Known, out: &mut Writer, around: Around) {
-        let target = self.next_target(known);
+    fn begin_image(
+        &mut self,
+        known: &Known,
+        out: &mut Writer,
+        target: Option<Target>,
+        around: Around,
+    ) {
         if self.images > 0 {
             self.images = self.images.saturating_add(1);
         } else if self.is_shown(around) {
@@ -241,7 +238,6 @@ impl Inside {
     }
 
     fn begin_call(&mut self, known: &Known, out: &mut Writer, around: Around) {
-        let _no_target = self.next_target(known);
         let place = self.calls;
         self.calls = place.saturating_add(1);
         if self.is_tagged(around) {
@@ -256,7 +252,7 @@ impl Inside {
 
     /// What a string is.
     fn read<'a>(&'a mut self, known: &'a Known, string: Span) -> &'a [u8] {
-        let events = string.events(known.events);
+        let events = known.string(string);
         if let Some(piece) = plain_string(known.bytes, events) {
             return piece;
         }

@@ -2,7 +2,7 @@
 
 use crate::notes::Notes;
 use crate::options::HtmlOptions;
-use crate::survey::Target;
+use crate::survey::{Span, Target};
 use md_engine::event::Event;
 use md_events::labels::Labels;
 use std::alloc::Global;
@@ -12,18 +12,32 @@ use std::alloc::Global;
 pub(crate) struct Known<'a, 'b> {
     pub(crate) alloc: Global,
     pub(crate) bytes: &'a [u8],
+    /// Those events of it that are written.
     pub(crate) events: &'a [Event],
+    /// Those of its definitions, if they are known ahead.
+    pub(crate) ahead: &'a [Event],
     pub(crate) options: &'a HtmlOptions<'a>,
     /// The `id` of each heading, in the order of the text.
     pub(crate) ids: &'a [String],
     /// The line ending of what the text does not have.
     pub(crate) ending: &'static str,
-    /// Where each link and image leads, in the order of the text.
-    pub(crate) targets: &'a [Option<Target>],
+    /// Where each definition leads, in the order of the text.
+    pub(crate) definitions: &'a [Target],
     pub(crate) notes: &'a Notes,
     /// The normal forms of the labels of footnotes, in the order of the text.
     pub(crate) forms: &'a [String],
     pub(crate) labels: &'a Labels<'b>,
+}
+
+impl<'a> Known<'a, '_> {
+    /// The events of a string.
+    pub(crate) fn string(&self, string: Span) -> &'a [Event] {
+        if string.is_ahead {
+            string.events(self.ahead)
+        } else {
+            string.events(self.events)
+        }
+    }
 }
 
 /// The first line ending of a text, or another if it has none.

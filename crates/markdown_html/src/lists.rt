@@ -1,36 +1,53 @@
 // The containers that are open.
 
+use crate::loose::LooseWalk;
 use crate::writer::Writer;
+use md_engine::event::Event;
 use std::alloc::Global;
 
 /// What is known of lists, quotes and footnotes.
 #[derive(Drop)]
-pub(crate) struct Lists<'a> {
-    /// Whether each list is loose, in the order in which lists begin.
-    loose: &'a [bool],
-    /// How many lists have begun.
+pub(crate) struct Lists {
+    /// Whether the outermost list that is open or was last is loose, and each in it, in the order in which they begin;
+    /// nothing where none is.
+    walk: LooseWalk,
+    /// How many of them have begun.
     begun: usize,
+    /// How many lists are open.
+    lists: usize,
     /// Of each list, quote and footnote that is open, whether it is a tight list.
     tight: Vec<bool>,
     /// Of each quote that is open, whether it is an alert.
     alerts: Vec<bool>,
 }
 
-impl<'a> Lists<'a> {
-    pub(crate) fn new(alloc: Global, loose: &'a [bool]) -> Lists<'a> {
+impl Lists {
+    pub(crate) fn new(alloc: Global) -> Lists {
         Lists {
-            loose,
+            walk: LooseWalk::new(alloc),
             begun: 0,
+            lists: 0,
             tight: Vec::new(alloc),
             alerts: Vec::new(alloc),
         }
     }
 
-    /// Begins a list.
-    pub(crate) fn begin_list(&mut self, out: &mut Writer) {
-        let is_loose = self.loose.get(self.begun).copied().unwrap_or(true);
+    /// Begins a list, with which these events begin.
+    pub(crate) fn begin_list(&mut self, out: &mut Writer, ahead: &[Event]) {
+        if self.lists == 0 {
+            let looked = self.walk.look(ahead, self.alerts.len());
+            out.refuse(looked.is_err());
+            self.begun = 0;
+        }
+        self.lists = self.lists.saturating_add(1);
+        let is_loose = self.walk.loose.get(self.begun).copied().unwrap_or(false);
         self.begun = self.begun.saturating_add(1);
         out.refuse(self.tight.push(!is_loose).is_err());
+    }
+
+    pub(crate) fn end_list(&mut self) {
+        self.lists = self.lists.saturating_sub(1);
+        self.end();
     }
 
     /// Begins a quote or a footnote.
@@ -38,7 +55,7 @@ impl<'a> Lists<'a> {
         out.refuse(self.tight.push(false).is_err());
     }
 
-    /// Ends a list, quote or footnote.
+    /// Ends a quote or a footnote.
     pub(crate) fn end(&mut self) {
         let _ended = self.tight.pop();
     }

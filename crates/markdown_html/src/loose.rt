@@ -6,6 +6,7 @@
 // prefix is on the line, so that the line is blank in the quote alone; and that of a line which is the last one of an
 // open fence, math or HTML, as in `- ~~~`, an empty line, `- a`.
 
+use crate::tags::{is_list_or_blank, is_of_lists};
 use md_engine::event::{Event, Kind, Name};
 use md_events::names::{is_block, is_container};
 use std::alloc::{AllocError, Global};
@@ -23,7 +24,7 @@ struct Open {
     is_parted: bool,
 }
 
-/// What is known after some of the events.
+/// What is known after some of the events of a list.
 #[derive(Drop)]
 pub(crate) struct LooseWalk {
     /// Whether a list is loose, for each list that has begun.
@@ -55,8 +56,25 @@ impl LooseWalk {
         }
     }
 
+    /// Reads the list with which these events begin, in so many quotes. Without a blank line none in it is loose.
+    pub(crate) fn look(&mut self, ahead: &[Event], quotes: usize) -> Result<(), AllocError> {
+        self.loose.clear();
+        let (list, has_blank) = list_of(ahead);
+        if !has_blank {
+            return Ok(());
+        }
+        self.open.clear();
+        self.quotes = quotes;
+        for event in list {
+            if is_of_lists(event.name) {
+                self.read(event)?;
+            }
+        }
+        Ok(())
+    }
+
     /// Reads an event.
-    pub(crate) fn read(&mut self, event: &Event) -> Result<(), AllocError> {
+    fn read(&mut self, event: &Event) -> Result<(), AllocError> {
         match event.kind {
             Kind::Enter if is_block(event.name) => self.enter(event.name)?,
             Kind::Exit if is_block(event.name) => self.exit(event.name, event.point.line),
@@ -150,4 +168,24 @@ impl LooseWalk {
 
 fn is_list(name: Name) -> bool {
     matches!(name, Name::ListOrdered | Name::ListUnordered)
+}
+
+/// The events of the list with which these begin, and whether a line in it is blank.
+fn list_of(ahead: &[Event]) -> (&[Event], bool) {
+    let mut open: usize = 0;
+    let mut has_blank = false;
+    for (at, event) in ahead.iter().enumerate() {
+        if !is_list_or_blank(event.name) {
+            continue;
+        }
+        match (event.name, event.kind) {
+            (Name::BlankLineEnding, _) => has_blank = true,
+            (_, Kind::Enter) => open = open.saturating_add(1),
+            (_, Kind::Exit) => open = open.saturating_sub(1),
+        }
+        if open == 0 {
+            return (ahead.get(..at).unwrap_or(ahead), has_blank);
+        }
+    }
+    (ahead, has_blank)
 }

@@ -164,6 +164,15 @@ fn reached_notes(
 }
 
 impl Notes {
+    /// Those of a text that has none.
+    pub(crate) fn none(alloc: Global) -> Notes {
+        Notes {
+            calls: Vec::new(alloc),
+            shown: Vec::new(alloc),
+            counts: Vec::new(alloc),
+        }
+    }
+
     /// Numbers a call that is shown. `numbers` are those of the footnotes that have one, else 0.
     fn add(&mut self, note: usize, numbers: &mut [usize]) -> Result<(), AllocError> {
         let Some(number) = numbers.get_mut(note) else {

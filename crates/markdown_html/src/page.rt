@@ -1,4 +1,5 @@
-// The HTML of a list of events, in one walk from the first to the last.
+// The HTML of a list of events, in one walk from the first to the last: of all events of a text, or of those of some of
+// its blocks after what is written of the blocks before them.
 //
 // The list nests: a part has an enter and an exit, and what is between them is in the part. So tags are written where
 // parts begin and end, and only little has to be known of what is open. The exit of a piece is right after its enter, and
@@ -11,32 +12,19 @@ ghost use Rattle.std.specs.Prelude.{◌≤◌, length};
 use crate::ahead::{Alert, alert_at, atx_heading, list_start, read_columns, setext_heading};
 use crate::footnotes::{begin_section, end_section, push_note};
 use crate::inside::{Around, Inside};
-use crate::known::{Known, ending_of};
+use crate::known::Known;
 use crate::lists::Lists;
-use crate::loose::LooseWalk;
-use crate::notes::{Notes, numbered_notes};
-use crate::options::HtmlOptions;
-use crate::survey::{SurveyWalk, Target};
+use crate::media::MediaWalk;
+use crate::survey::Target;
 use crate::table::Table;
-use crate::tags::{Noted, Shown, Sort, noted_of, sort_of};
-use crate::targets::{most_repeated, targets};
+use crate::tags::{Shown, Sort, is_media, sort_of};
+use crate::targets::most_repeated;
 use crate::writer::Writer;
 use md_engine::event::{Event, Kind, Name, Point};
 use md_engine::message::Message;
-use md_engine::parse_state::ParseState;
-use md_events::labels::Labels;
 use md_events::slice::{Position, Slice, between};
-use std::alloc::{AllocError, Global};
+use std::alloc::Global;
 use std::mem;
-
-/// What is known of the whole text before the page is written.
-#[derive(Drop)]
-struct Plan {
-    /// Whether each list is loose.
-    loose: Vec<bool>,
-    targets: Vec<Option<Target>>,
-    notes: Notes,
-}
 
 /// A footnote definition that is open.
 #[derive(Drop)]
@@ -63,7 +51,10 @@ struct Page<'a, 'b> {
     /// How many headings have begun.
     headings: usize,
     table: Table,
-    lists: Lists<'a>,
+    /// How many bytes of definitions may be written in the parts that follow.
+    left: usize,
+    lists: Lists,
+    media: MediaWalk,
     inside: Inside,
     /// The footnote definitions that are open.
     open: Vec<OpenNote>,
@@ -71,42 +62,15 @@ struct Page<'a, 'b> {
     bodies: Vec<Vec<u8>>,
 }
 
-/// Walks over the events of a text once, for what has to be known before the page is written: what a survey lists, and
-/// which lists are loose.
-fn walk(alloc: Global, events: &[Event]) -> Result<(SurveyWalk, LooseWalk), AllocError> {
-    let mut survey = SurveyWalk::new(alloc);
-    let mut lists = LooseWalk::new(alloc);
-    for (at, event) in events.iter().enumerate() {
-        match noted_of(event.name) {
-            Noted::Nothing => {}
-            Noted::Survey => survey.read(event, at)?,
-            Noted::Lists => lists.read(event)?,
-            Noted::Both => {
-                survey.read(event, at)?;
-                lists.read(event)?;
-            }
-        }
-    }
-    Ok((survey, lists))
-}
-
-/// What is known of a whole text.
-fn plan_of(
-    alloc: Global,
-    events: &[Event],
-    state: &ParseState,
-    labels: &Labels,
-) -> Result<Plan, Message> {
-    let (walked, lists) = walk(alloc, events)?;
-    let survey = walked.found;
-    let targets = targets(alloc, state.bytes, events, &survey, labels)?;
-    let count = state.gfm_footnote_definitions.len();
-    let notes = numbered_notes(alloc, state.bytes, events, &survey.calls, labels, count)?;
-    Ok(Plan {
-        loose: lists.loose,
-        targets,
-        notes,
-    })
+/// What is written of a text, and what is kept from one part of it to the next.
+#[derive(Drop)]
+pub(crate) struct Kept {
+    out: Writer,
+    /// How many headings have begun.
+    headings: usize,
+    table: Table,
+    /// How many bytes of definitions may be written.
+    left: usize,
 }
 
 /// For how many bytes a page has room at once: as many as the text has, and some for tags.
@@ -114,66 +78,27 @@ fn room_for(bytes: &[u8]) -> usize {
     bytes.len().saturating_add(bytes.len() / 4)
 }
 
-/// The HTML of a text, given what `parser::parse_with` returns of it with the layer `Inlines` of `markdown_inlines`.
-///
-/// Paragraphs in tight lists have no `<p>` around them (CommonMark 5.3). Definitions and frontmatter are not shown.
-/// Footnotes that are called are in a section at the end, in the order of their first calls. Text is escaped; raw HTML
-/// and addresses are as `options` say. No list of events is refused, but of one that no parse returns the HTML has no
-/// meaning.
-///
-/// An `Err` says that memory ran out.
-pub fn html<'a>(
-    alloc: Global,
-    events: &'a [Event],
-    state: &'a ParseState<'a>,
-    options: &'a HtmlOptions<'a>,
-) -> Result<String, Message> {
-    html_with_ids(alloc, events, state, options, &[])
+impl Kept {
+    /// Nothing is written.
+    pub(crate) fn new(alloc: Global, bytes: &[u8]) -> Kept {
+        Kept {
+            out: Writer::with_room(alloc, room_for(bytes)),
+            headings: 0,
+            table: Table::new(Vec::new(alloc), most_repeated(bytes)),
+            left: most_repeated(bytes),
+        }
+    }
+
+    /// What is written. An `Err` says that memory ran out before all of it was.
+    pub(crate) fn html(self) -> Result<Vec<u8>, Message> {
+        let (html, is_cut) = self.out.finish();
+        if is_cut { Err(Message) } else { Ok(html) }
+    }
 }
 
-/// The same, where each heading has an `id` too: the first of `ids` for the first heading of the text, and so on. Where
-/// it is empty, or none is left, the heading has none.
-pub fn html_with_ids<'a>(
-    alloc: Global,
-    events: &'a [Event],
-    state: &'a ParseState<'a>,
-    options: &'a HtmlOptions<'a>,
-    ids: &'a [String],
-) -> Result<String, Message> {
-    let bytes = html_bytes(alloc, events, state, options, ids)?;
-    Ok(String::from_utf8(bytes).unwrap_or(String::new(alloc)))
-}
-
-/// The same as bytes, for whoever writes them somewhere: `html_with_ids` looks at them once more. Of what a parse returns
-/// they are UTF-8; of other events they may not be, and then the string is empty.
-pub fn html_bytes<'a>(
-    alloc: Global,
-    events: &'a [Event],
-    state: &'a ParseState<'a>,
-    options: &'a HtmlOptions<'a>,
-    ids: &'a [String],
-) -> Result<Vec<u8>, Message> {
-    let forms = &state.gfm_footnote_definitions;
-    let labels = Labels::new(alloc, &state.definitions, forms)?;
-    let plan = plan_of(alloc, events, state, &labels)?;
-    let known = Known {
-        alloc,
-        bytes: state.bytes,
-        events,
-        options,
-        ids,
-        ending: ending_of(state.bytes, options.default_line_ending.text()),
-        targets: &plan.targets,
-        notes: &plan.notes,
-        forms,
-        labels: &labels,
-    };
-    write(known, &plan.loose)
-}
-
-/// The HTML by what is known.
-fn write<'a, 'b>(known: Known<'a, 'b>, loose: &'a [bool]) -> Result<Vec<u8>, Message> {
-    let mut page = Page::new(known, loose);
+/// Writes the events that are known, which are all that are in some blocks, after what is written.
+pub(crate) fn write<'a, 'b>(known: Known<'a, 'b>, kept: Kept) -> Kept {
+    let mut page = Page::new(known, kept);
     let mut left = known.events;
     while let [event, rest @ ..] = left {
         let ahead = left;
@@ -189,27 +114,27 @@ fn write<'a, 'b>(known: Known<'a, 'b>, loose: &'a [bool]) -> Result<Vec<u8>, Mes
             }
             (Sort::Block, Kind::Enter) => page.enter_block(event.name, ahead),
             (Sort::Block, Kind::Exit) => page.exit_block(event.name),
-            (Sort::Phrase, Kind::Enter) => page.enter_phrase(event),
+            (Sort::Phrase, Kind::Enter) => page.enter_phrase(event, ahead),
             (Sort::Phrase, Kind::Exit) => page.exit_phrase(event),
         }
     }
     page.write_notes();
-    let is_refused = page.inside.is_refused();
-    let (html, is_cut) = page.out.finish();
-    if is_refused || is_cut {
-        Err(Message)
-    } else {
-        Ok(html)
-    }
+    page.keep()
 }
 
 impl<'a, 'b> Page<'a, 'b> {
-    /// A page on which nothing is written.
-    fn new(known: Known<'a, 'b>, loose: &'a [bool]) -> Page<'a, 'b> {
+    /// A page on which nothing of these events is written.
+    fn new(known: Known<'a, 'b>, kept: Kept) -> Page<'a, 'b> {
         let alloc = known.alloc;
+        let Kept {
+            out,
+            headings,
+            table,
+            left,
+        } = kept;
         Page {
             known,
-            out: Writer::with_room(alloc, room_for(known.bytes)),
+            out,
             ends_by_feed: known.ending == "\n",
             start: Point {
                 line: 1,
@@ -219,24 +144,66 @@ impl<'a, 'b> Page<'a, 'b> {
             },
             shown: Shown::Nothing,
             heading: "h1",
-            headings: 0,
-            table: Table::new(Vec::new(alloc), most_repeated(known.bytes)),
-            lists: Lists::new(alloc, loose),
+            headings,
+            table,
+            left,
+            lists: Lists::new(alloc),
+            media: MediaWalk::new(alloc),
             inside: Inside::new(alloc),
             open: Vec::new(alloc),
             bodies: Vec::new(alloc),
         }
     }
 
-    /// Begins what an inline layer has found in a text.
-    fn enter_phrase(&mut self, event: &Event) {
+    /// What is kept of it.
+    fn keep(self) -> Kept {
+        let Page {
+            out,
+            headings,
+            table,
+            left,
+            inside,
+            ..
+        } = self;
+        let mut out = out;
+        out.refuse(inside.is_refused());
+        Kept {
+            out,
+            headings,
+            table,
+            left,
+        }
+    }
+
+    /// Begins what an inline layer has found in a text, with which these events begin.
+    fn enter_phrase(&mut self, event: &Event, ahead: &[Event]) {
         self.start = event.point;
+        let target = if is_media(event.name) {
+            self.media_target(ahead)
+        } else {
+            None
+        };
         let around = self.around();
-        self.inside.enter(&self.known, &mut self.out, event, around);
+        self.inside
+            .enter(&self.known, &mut self.out, event, target, around);
+    }
+
+    /// Where the link or image leads that begins with these events.
+    fn media_target(&mut self, ahead: &[Event]) -> Option<Target> {
+        match self.media.enter(&self.known, ahead, &mut self.left) {
+            Ok(target) => target,
+            Err(Message) => {
+                self.out.refuse(true);
+                None
+            }
+        }
     }
 
     /// Ends it.
     fn exit_phrase(&mut self, event: &Event) {
+        if is_media(event.name) {
+            self.media.exit();
+        }
         let piece = self.bytes_to(event.point);
         let around = self.around();
         self.inside
@@ -276,9 +243,11 @@ impl<'a, 'b> Page<'a, 'b> {
             Name::HtmlFlowData => self.push_html(end),
             Name::LineEnding => self.end_line(end),
             _ => {
-                let piece = self.bytes_to(end);
+                let (from, to) = self.places_to(end);
                 let around = self.around();
-                self.inside.push_text(&mut self.out, piece, around);
+                if self.inside.is_shown(around) {
+                    self.out.push_escaped_within(self.known.bytes, from, to);
+                }
             }
         }
     }
@@ -314,11 +283,11 @@ impl<'a, 'b> Page<'a, 'b> {
             Name::ListUnordered => {
                 self.begin_line();
                 self.push_ended("<ul>\n");
-                self.lists.begin_list(&mut self.out);
+                self.lists.begin_list(&mut self.out, ahead);
             }
             Name::ListOrdered => {
                 self.push_on_line("<ol");
-                self.lists.begin_list(&mut self.out);
+                self.lists.begin_list(&mut self.out, ahead);
                 self.end_list_tag(ahead);
             }
             Name::ListItem => self.push_on_line("<li>"),
@@ -360,11 +329,11 @@ impl<'a, 'b> Page<'a, 'b> {
             }
             Name::ListUnordered => {
                 self.push_ended("</ul>\n");
-                self.lists.end();
+                self.lists.end_list();
             }
             Name::ListOrdered => {
                 self.push_ended("</ol>\n");
-                self.lists.end();
+                self.lists.end_list();
             }
             Name::ListItem => self.push_ended("</li>\n"),
             Name::GfmFootnoteDefinition => self.end_note(),
@@ -558,13 +527,19 @@ impl<'a, 'b> Page<'a, 'b> {
 
     /// Its bytes, without a tab of which a container has taken columns.
     fn bytes_to(&self, end: Point) -> &'a [u8] {
+        let (from, to) = self.places_to(end);
+        between(self.known.bytes, from, to)
+    }
+
+    /// The same as indices: of its first byte, and of the one after it.
+    fn places_to(&self, end: Point) -> (usize, usize) {
         let start = self.start;
         let from = if start.vs > 0 {
             start.index.saturating_add(1)
         } else {
             start.index
         };
-        between(self.known.bytes, from, end.index)
+        (from, end.index)
     }
 
     /// Writes what a container has left of a tab before a line, as spaces.

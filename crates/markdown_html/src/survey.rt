@@ -15,6 +15,8 @@ pub(crate) struct Span {
     /// The first byte; how many there are, once the span has ended.
     start: usize,
     pub(crate) len: usize,
+    /// Whether they are among the definitions that are known ahead, and not among the events of the part.
+    pub(crate) is_ahead: bool,
 }
 
 /// Where a link leads.
@@ -71,6 +73,7 @@ impl Span {
         to: 0,
         start: 0,
         len: 0,
+        is_ahead: false,
     };
 
     /// Begins at the enter with this index.
@@ -109,6 +112,13 @@ impl Target {
         destination: Span::EMPTY,
         title: Span::EMPTY,
     };
+
+    /// The same, found among the definitions that are known ahead.
+    pub(crate) fn ahead(mut self) -> Target {
+        self.destination.is_ahead = true;
+        self.title.is_ahead = true;
+        self
+    }
 
     /// Notes an event with this index.
     fn note(&mut self, event: &Event, at: usize) {
@@ -213,6 +223,24 @@ impl SurveyWalk {
             begun: 0,
             cells: Cells::NONE,
         }
+    }
+
+    /// Begins anew.
+    pub(crate) fn clear(&mut self) {
+        self.found.media.clear();
+        self.found.definitions.clear();
+        self.found.calls.clear();
+        self.open.clear();
+        self.images = 0;
+        self.definition = Target::NONE;
+        self.notes.clear();
+        self.begun = 0;
+        self.cells = Cells::NONE;
+    }
+
+    /// Whether no link, image or call is open.
+    pub(crate) fn is_outside(&self) -> bool {
+        self.open.is_empty()
     }
 
     /// Reads an event, which has this index.

@@ -1,4 +1,4 @@
-// What the events of a name are for, on the page and before it is written, and what is written around phrases.
+// What the events of a name are for, on the page and where it is looked ahead, and what is written around phrases.
 
 use md_engine::event::Name;
 use md_events::names::is_block;
@@ -59,34 +59,42 @@ pub(crate) fn sort_of(name: Name) -> Sort {
     }
 }
 
-/// What is known by events of a name before the page is written.
-#[derive(Clone, Copy)]
-pub(crate) enum Noted {
-    /// Nothing, as by most events.
-    Nothing,
-    /// What a survey lists.
-    Survey,
-    /// Which lists are loose.
-    Lists,
-    /// Both.
-    Both,
+/// Whether events of this name are of a link, an image or a call.
+pub(crate) fn is_media(name: Name) -> bool {
+    matches!(name, Name::Link | Name::Image | Name::GfmFootnoteCall)
 }
 
-#[inline(always)]
-pub(crate) fn noted_of(name: Name) -> Noted {
+/// Whether a survey lists events of this name, or what is in them.
+pub(crate) fn is_surveyed(name: Name) -> bool {
     match name {
-        Name::Link | Name::Image | Name::GfmFootnoteCall => Noted::Survey,
-        Name::LabelText | Name::ReferenceString | Name::Resource => Noted::Survey,
-        Name::ResourceDestinationString | Name::ResourceTitleString => Noted::Survey,
-        Name::DefinitionDestinationString | Name::DefinitionTitleString => Noted::Survey,
-        Name::GfmTableRow | Name::GfmTableCell => Noted::Survey,
-        Name::GfmTableDelimiterRow | Name::GfmTableDelimiterCell => Noted::Survey,
-        Name::Definition | Name::GfmFootnoteDefinition | Name::GfmTable => Noted::Both,
-        Name::BlankLineEnding | Name::BlockQuotePrefix => Noted::Lists,
-        Name::ListItemPrefix | Name::GfmFootnoteDefinitionPrefix => Noted::Lists,
-        _ if is_block(name) => Noted::Lists,
-        _ => Noted::Nothing,
+        Name::Link | Name::Image | Name::GfmFootnoteCall => true,
+        Name::LabelText | Name::ReferenceString | Name::Resource => true,
+        Name::ResourceDestinationString | Name::ResourceTitleString => true,
+        Name::Definition | Name::DefinitionDestinationString | Name::DefinitionTitleString => true,
+        Name::GfmFootnoteDefinition | Name::GfmTable | Name::GfmTableRow | Name::GfmTableCell => {
+            true
+        }
+        Name::GfmTableDelimiterRow | Name::GfmTableDelimiterCell => true,
+        _ => false,
     }
+}
+
+// Names that are no neighbours are asked for apart: so a question is a test of a bit, where one match is a jump by a
+// table.
+
+/// Whether events of this name are of a list, or of the ending of a blank line.
+#[inline(always)]
+pub(crate) fn is_list_or_blank(name: Name) -> bool {
+    matches!(name, Name::ListOrdered | Name::ListUnordered) || matches!(name, Name::BlankLineEnding)
+}
+
+/// Whether events of this name say which lists are loose.
+#[inline(always)]
+pub(crate) fn is_of_lists(name: Name) -> bool {
+    is_block(name)
+        || matches!(name, Name::BlockQuotePrefix | Name::ListItemPrefix)
+        || matches!(name, Name::GfmFootnoteDefinitionPrefix)
+        || matches!(name, Name::BlankLineEnding)
 }
 
 /// What is written where a part of a text begins, as far as that depends on the name alone.

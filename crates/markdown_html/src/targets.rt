@@ -4,13 +4,11 @@
 // bytes of definitions are written than the text has, or 100,000 if that is more. A reference for which too few are left
 // leads nowhere: its text is written without a link.
 
+use crate::known::Known;
 use crate::memory::push;
 use crate::spelled::label_form;
-use crate::survey::{Media, Survey, Target};
-use md_engine::event::Event;
+use crate::survey::{Media, Target};
 use md_engine::message::Message;
-use md_events::labels::Labels;
-use std::alloc::Global;
 
 /// The least number of bytes, and of cells, that may be written more often than the text has them.
 const LEAST: usize = 100_000;
@@ -21,22 +19,15 @@ pub(crate) fn most_repeated(bytes: &[u8]) -> usize {
 }
 
 /// The definition of a reference.
-fn definition(
-    alloc: Global,
-    bytes: &[u8],
-    events: &[Event],
-    survey: &Survey,
-    labels: &Labels,
-    media: &Media,
-) -> Result<Option<Target>, Message> {
+fn definition(known: &Known, media: &Media) -> Result<Option<Target>, Message> {
     let label = if media.reference.is_empty() {
         media.text
     } else {
         media.reference
     };
-    let form = label_form(alloc, bytes, label.events(events))?;
-    match labels.definition(&form) {
-        Some(place) => Ok(survey.definitions.get(place).copied()),
+    let form = label_form(known.alloc, known.bytes, label.events(known.events))?;
+    match known.labels.definition(&form) {
+        Some(place) => Ok(known.definitions.get(place).copied()),
         None => Ok(None),
     }
 }
@@ -52,24 +43,21 @@ fn within(found: Option<Target>, left: &mut usize) -> Option<Target> {
     Some(target)
 }
 
-/// Where each link and image leads, in the order of the text; none where it leads nowhere.
+/// Lists where each of these links and images leads; none where it leads nowhere. So many bytes of definitions are
+/// `left` to be written.
 pub(crate) fn targets(
-    alloc: Global,
-    bytes: &[u8],
-    events: &[Event],
-    survey: &Survey,
-    labels: &Labels,
-) -> Result<Vec<Option<Target>>, Message> {
-    let mut left = most_repeated(bytes);
-    let mut targets = Vec::new(alloc);
-    for media in &survey.media {
-        let target = if media.has_resource {
-            Some(media.target)
+    known: &Known,
+    media: &[Media],
+    left: &mut usize,
+    targets: &mut Vec<Option<Target>>,
+) -> Result<(), Message> {
+    for it in media {
+        let target = if it.has_resource {
+            Some(it.target)
         } else {
-            let found = definition(alloc, bytes, events, survey, labels, media)?;
-            within(found, &mut left)
+            within(definition(known, it)?, left)
         };
-        push(&mut targets, target)?;
+        push(targets, target)?;
     }
-    Ok(targets)
+    Ok(())
 }

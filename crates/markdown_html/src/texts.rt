@@ -102,11 +102,11 @@ fn escaped(byte: u8) -> Option<&'static str> {
     }
 }
 
-/// Whether each of 16 bytes is written as it is; false of fewer.
+/// Which of 16 bytes are not written as they are: a bit for each. Of fewer bytes all.
 #[inline(always)]
-fn are_plain(bytes: &[u8]) -> bool {
+fn replaced(bytes: &[u8]) -> u64 {
     if bytes.len() < 16 {
-        return false;
+        return u64::MAX;
     }
     let lanes = u8x16::from_slice(bytes);
     let replaced = lanes.simd_eq(u8x16::splat(b'&'))
@@ -114,7 +114,25 @@ fn are_plain(bytes: &[u8]) -> bool {
         | lanes.simd_eq(u8x16::splat(b'>'))
         | lanes.simd_eq(u8x16::splat(b'"'))
         | lanes.simd_eq(u8x16::splat(0));
-    replaced.to_bitmask() == 0
+    replaced.to_bitmask()
+}
+
+/// Whether each of 16 bytes is written as it is; false of fewer.
+#[inline(always)]
+fn are_plain(bytes: &[u8]) -> bool {
+    replaced(bytes) == 0
+}
+
+/// Whether each byte of a text from one index to another is written as it is, if these are at most 16 and 16 are looked
+/// at at once; else false. Most pieces of a text are as short.
+#[inline(always)]
+pub(crate) fn is_plain_within(text: &[u8], from: usize, to: usize) -> bool {
+    let len = to.saturating_sub(from);
+    if len > 16 {
+        return false;
+    }
+    let ahead = text.get(from..).unwrap_or(&[]);
+    replaced(ahead) & (1u64 << len).saturating_sub(1) == 0
 }
 
 /// Whether each byte is written as it is: 16 are looked at at once, and of the last ones as many as there are.

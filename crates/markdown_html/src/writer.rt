@@ -4,6 +4,7 @@
 // after each piece, but once at the end.
 
 use crate::texts;
+use md_events::slice::between;
 use std::alloc::Global;
 use std::{mem, str};
 
@@ -101,6 +102,17 @@ impl Writer {
     pub(crate) fn push_escaped(&mut self, bytes: &[u8]) {
         if !self.is_refused {
             self.is_refused = texts::push_escaped(&mut self.bytes, bytes).is_err();
+        }
+    }
+
+    /// The same of the bytes of a text from one index to another.
+    #[inline(always)]
+    pub(crate) fn push_escaped_within(&mut self, text: &[u8], from: usize, to: usize) {
+        let bytes = between(text, from, to);
+        if texts::is_plain_within(text, from, to) {
+            self.push_bytes(bytes);
+        } else {
+            self.push_escaped(bytes);
         }
     }
 

@@ -4,7 +4,7 @@ ghost use Rattle.markdown_blocks.specs.Parsed.{IsSmall, IsWithoutMdx};
 
 use crate::reports::anchors::{Anchor, anchors};
 use crate::reports::builder::nodes_of;
-use crate::reports::layer::parse_inlines;
+use crate::reports::layer::{layer_of, parse_inlines};
 use markdown_blocks::configuration::ParseOptions;
 use markdown_blocks::event::Event;
 use markdown_blocks::message::Message;
@@ -45,10 +45,10 @@ pub(crate) fn html_of(
     requires size { IsSmall text.now }
     requires built { IsWithoutMdx options.now }
 {
-    let (events, state) = parse_inlines(alloc, text, options)?;
     if !asked.has_anchors && !asked.is_page {
-        return html_bytes(alloc, &events, &state, written(asked), &[]);
+        return markdown_html::html_of(alloc, &layer_of(options), text, options, written(asked));
     }
+    let (events, state) = parse_inlines(alloc, text, options)?;
     let nodes = nodes_of(alloc, &events, &state)?;
     let anchors = anchors(alloc, &nodes)?;
     let body = body_of(alloc, asked, &events, &state, &anchors)?;

@@ -10,7 +10,7 @@ use markdown_inlines::Inlines;
 use std::alloc::Global;
 
 /// The layer whose inline constructs go with these blocks.
-fn layer_of(options: &ParseOptions) -> Inlines {
+pub(crate) fn layer_of(options: &ParseOptions) -> Inlines {
     if options.constructs.math_flow {
         Inlines::ALL
     } else if options.constructs.gfm_table {

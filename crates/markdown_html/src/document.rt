@@ -1,0 +1,212 @@
+// The HTML of a text: of all its events at once, or part by part.
+//
+// What is known only further on, where definitions lead and which footnotes are called, is listed before the page is
+// written. Of a text that is read part by part the parser gives the definitions ahead. Footnotes are numbered by their
+// first calls, and the last section is of those that are shown: so a text with footnotes is written at once.
+
+ghost use Rattle.markdown_blocks.specs.Parsed.{IsSmall, IsWithoutMdx};
+
+use crate::known::{Known, ending_of};
+use crate::memory::push;
+use crate::notes::{Notes, numbered_notes};
+use crate::options::HtmlOptions;
+use crate::page::{Kept, write};
+use crate::survey::{Survey, SurveyWalk, Target};
+use crate::tags::is_surveyed;
+use markdown_blocks::parser::{Ahead, LEAST, Sink, parse_into};
+use md_engine::configuration::ParseOptions;
+use md_engine::event::Event;
+use md_engine::message::Message;
+use md_engine::parse_state::ParseState;
+use md_events::inline::Inline;
+use md_events::labels::Labels;
+use md_events::moving::append;
+use std::alloc::{AllocError, Global};
+use std::mem;
+
+/// What some events list.
+fn survey_of(alloc: Global, events: &[Event]) -> Result<Survey, AllocError> {
+    let mut walk = SurveyWalk::new(alloc);
+    for (at, event) in events.iter().enumerate() {
+        if is_surveyed(event.name) {
+            walk.read(event, at)?;
+        }
+    }
+    Ok(walk.found)
+}
+
+/// The HTML of a text, given what `parser::parse_with` returns of it with the layer `Inlines` of `markdown_inlines`.
+///
+/// Paragraphs in tight lists have no `<p>` around them (CommonMark 5.3). Definitions and frontmatter are not shown.
+/// Footnotes that are called are in a section at the end, in the order of their first calls. Text is escaped; raw HTML
+/// and addresses are as `options` say. No list of events is refused, but of one that no parse returns the HTML has no
+/// meaning.
+///
+/// An `Err` says that memory ran out.
+pub fn html<'a>(
+    alloc: Global,
+    events: &'a [Event],
+    state: &'a ParseState<'a>,
+    options: &'a HtmlOptions<'a>,
+) -> Result<String, Message> {
+    html_with_ids(alloc, events, state, options, &[])
+}
+
+/// The same, where each heading has an `id` too: the first of `ids` for the first heading of the text, and so on. Where
+/// it is empty, or none is left, the heading has none.
+pub fn html_with_ids<'a>(
+    alloc: Global,
+    events: &'a [Event],
+    state: &'a ParseState<'a>,
+    options: &'a HtmlOptions<'a>,
+    ids: &'a [String],
+) -> Result<String, Message> {
+    let bytes = html_bytes(alloc, events, state, options, ids)?;
+    Ok(String::from_utf8(bytes).unwrap_or(String::new(alloc)))
+}
+
+/// The same as bytes, for whoever writes them somewhere: `html_with_ids` looks at them once more. Of what a parse returns
+/// they are UTF-8; of other events they may not be, and then the string is empty.
+pub fn html_bytes<'a>(
+    alloc: Global,
+    events: &'a [Event],
+    state: &'a ParseState<'a>,
+    options: &'a HtmlOptions<'a>,
+    ids: &'a [String],
+) -> Result<Vec<u8>, Message> {
+    let forms = &state.gfm_footnote_definitions;
+    let labels = Labels::new(alloc, &state.definitions, forms)?;
+    let survey = survey_of(alloc, events)?;
+    let count = forms.len();
+    let notes = numbered_notes(alloc, state.bytes, events, &survey.calls, &labels, count)?;
+    let known = Known {
+        alloc,
+        bytes: state.bytes,
+        events,
+        ahead: events,
+        definitions: &survey.definitions,
+        options,
+        ids,
+        ending: ending_of(state.bytes, options.default_line_ending.text()),
+        notes: &notes,
+        forms,
+        labels: &labels,
+    };
+    let kept = write(known, Kept::new(alloc, state.bytes));
+    kept.html()
+}
+
+/// Writes a text part by part, if it has no footnotes.
+#[derive(Drop)]
+struct Pages<'a> {
+    alloc: Global,
+    options: &'a HtmlOptions<'a>,
+    kept: Kept,
+    /// Where definitions lead; none before the first part.
+    definitions: Option<Vec<Target>>,
+    notes: Notes,
+    /// All events, of a text that has footnotes.
+    all: Vec<Event>,
+}
+
+impl Pages<'_> {
+    /// Writes a part.
+    fn push(&mut self, ahead: &Ahead, events: &[Event]) -> Result<(), Message> {
+        let alloc = self.alloc;
+        let options = self.options;
+        let bytes = ahead.state.bytes;
+        let definitions = match self.definitions.take() {
+            Some(definitions) => definitions,
+            None => definitions_ahead(alloc, ahead.definitions)?,
+        };
+        let known = Known {
+            alloc,
+            bytes,
+            events,
+            ahead: ahead.definitions,
+            definitions: &definitions,
+            options,
+            ids: &[],
+            ending: ending_of(bytes, options.default_line_ending.text()),
+            notes: &self.notes,
+            forms: &[],
+            labels: ahead.labels,
+        };
+        let kept = mem::replace(&mut self.kept, Kept::new(alloc, &[]));
+        self.kept = write(known, kept);
+        self.definitions = Some(definitions);
+        Ok(())
+    }
+}
+
+impl Sink for Pages<'_> {
+    ghost takes = { λ old events new. Unit {0} };
+
+    fn wants_definitions(&self) -> bool {
+        true
+    }
+
+    fn take(&mut self, ahead: &Ahead, events: Vec<Event>) -> Result<Vec<Event>, Message> {
+        if ahead.state.gfm_footnote_definitions.is_empty() {
+            self.push(ahead, &events)?;
+        } else {
+            append(&mut self.all, &events)?;
+        }
+        Ok(events)
+    }
+}
+
+/// Where the definitions lead that are known ahead.
+fn definitions_ahead(alloc: Global, events: &[Event]) -> Result<Vec<Target>, Message> {
+    let survey = survey_of(alloc, events)?;
+    let mut definitions = Vec::new(alloc);
+    for definition in &survey.definitions {
+        push(&mut definitions, definition.ahead())?;
+    }
+    Ok(definitions)
+}
+
+/// The HTML of a text whose inline content a layer reads, as `html` gives it of what `parser::parse_with` returns of it
+/// with this layer, which is `Inlines` of `markdown_inlines`. Its events are never in one list, unless it has footnotes:
+/// so it takes less time and memory.
+///
+/// The text has at most `parser::MAX_LEN` bytes, and the constructs of MDX are off. An `Err` says that memory ran out.
+pub fn html_of<I: Inline>(
+    alloc: Global,
+    inline: &I,
+    text: &str,
+    parse: &ParseOptions,
+    options: &HtmlOptions,
+) -> Result<Vec<u8>, Message>
+    requires size { IsSmall text.now }
+    requires built { IsWithoutMdx parse.now }
+{
+    html_with_least(alloc, inline, text, parse, options, LEAST)
+}
+
+/// The same in parts of so many bytes at least.
+pub fn html_with_least<I: Inline>(
+    alloc: Global,
+    inline: &I,
+    text: &str,
+    parse: &ParseOptions,
+    options: &HtmlOptions,
+    least: usize,
+) -> Result<Vec<u8>, Message>
+    requires size { IsSmall text.now }
+    requires built { IsWithoutMdx parse.now }
+{
+    let mut pages = Pages {
+        alloc,
+        options,
+        kept: Kept::new(alloc, text.as_bytes()),
+        definitions: None,
+        notes: Notes::none(alloc),
+        all: Vec::new(alloc),
+    };
+    let state = parse_into(alloc, inline, text, parse, least, &mut pages)?;
+    if state.gfm_footnote_definitions.is_empty() {
+        return pages.kept.html();
+    }
+    html_bytes(alloc, &pages.all, &state, options, &[])
+}
