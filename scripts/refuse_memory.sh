@@ -4,8 +4,9 @@
 # refused rises until a run meets no refusal (`scripts/refuse.c`).
 #
 # - Of `test_library`, those of one call of the library: `parse`, `parse_with`, `outline`, `outline_part`, `wrap::quote`,
-#   `wrap::item`, `wrap::footnote`, and the `run` of `blocks`, all on one text, those of `Parts` on another, and those of
-#   `parse_with` with the inline layer and of `html` on one with each inline construct of GitHub. What the program asks
+#   `wrap::item`, `wrap::footnote`, and the `run` of `blocks`, all on one text, those of `Parts` on another, those of
+#   `parse_with` with the inline layer and of `html` on one with each inline construct of GitHub, and those of
+#   `parse_into` and `html_of` on one of several parts. What the program asks
 #   for before and after the call is counted apart. A refused run ends with status 3 and prints nothing, and the last run
 #   prints what is given here. The states that take no memory answer while each request is refused.
 # - Of `blocks`, `events`, `plain_blocks`, `plain_inlines` and `examples_references`, those of the whole program: on the
@@ -152,6 +153,57 @@ class="data-footnote-backref">\u21a9</a></p>
 </section>
 """.encode()
 
+# The outline and the HTML of the text that is handed over in parts.
+LINKED_OUTLINE = b"""paragraph
+  | [a] ![b *c*][d]
+quote
+  list -
+    item
+      paragraph
+        | e
+      paragraph
+        | [f](g "h")
+heading 1
+  | i
+list -
+  item
+    paragraph
+      | j
+  item
+    paragraph
+      | k
+paragraph
+  | l
+definition
+  label | A
+  destination | m
+  title | n&amp;
+definition
+  label | d
+  destination | o
+
+definitions 2
+= a
+= d
+"""
+
+LINKED_PAGE = b"""<p><a href="m" title="n&amp;">a</a> <img src="o" alt="b c" /></p>
+<blockquote>
+<ul>
+<li>
+<p>e</p>
+<p><a href="g" title="h">f</a></p>
+</li>
+</ul>
+</blockquote>
+<h1>i</h1>
+<ul>
+<li>j</li>
+<li>k</li>
+</ul>
+<p>l</p>
+"""
+
 # The refused runs of the call with the inline layer that there are at least.
 LEAST_INLINES = 100
 
@@ -161,6 +213,8 @@ CALLS = {
     "parse_with": (TEXT_OUTLINE, b""),
     "inlines": (MARKED_OUTLINE, b""),
     "html": (MARKED_PAGE, b""),
+    "into": (LINKED_OUTLINE, b""),
+    "html_of": (LINKED_PAGE, b""),
     "parts": (PARTS_OUTLINE, b""),
     "outline": (TEXT_OUTLINE, b""),
     "outline_part": (TEXT_OUTLINE, b""),

@@ -3,7 +3,8 @@
 //
 //     parse, parse_with, inlines, parts, outline, outline_part
 //                                   it prints the outline of the text; `inlines` is `parse_with` with that layer
-//     html                          it prints the HTML of the text
+//     into                          the same of a text that is handed over in parts, with that layer
+//     html, html_of                 it prints the HTML of the text; `html_of` reads it in parts
 //     quote, item, footnote         it prints the text in that container
 //     run                           it prints what `printing::run_blocks::run` prints of its standard input
 //     states                        the states that take no memory, of those that can be called on their own;
@@ -18,6 +19,7 @@
 // are here and not beside what they test.
 #![tactic(auto)]
 
+ghost use Rattle.std.specs.Prelude.{◌≡◌, ◌++◌};
 ghost use Rattle.markdown_blocks.specs.Parsed.{IsSmall, IsWithoutMdx};
 
 #[cfg(test)]
@@ -55,10 +57,10 @@ use markdown_blocks::configuration::ParseOptions;
 use markdown_blocks::event::Event;
 use markdown_blocks::message::Message;
 use markdown_blocks::outline::{outline, outline_part};
-use markdown_blocks::parser::{ParseState, Parts, parse, parse_with};
+use markdown_blocks::parser::{Ahead, ParseState, Parts, Sink, parse, parse_into, parse_with};
 use markdown_blocks::seam::Inline;
 use markdown_blocks::wrap::{footnote, item, quote};
-use markdown_html::{HtmlOptions, html};
+use markdown_html::{HtmlOptions, html, html_with_least};
 use markdown_inlines::Inlines;
 use md_program::body::{Body, MOST, Outlined};
 use md_program::print::print;
@@ -82,6 +84,10 @@ const MARKED: &str =
 
 /// A text of several parts: its byte order mark, two that end after a paragraph, and a last one.
 const PARTED: &str = "\u{feff}[k]: l\n\nm\n\n> n\n\no\n\n[^f]: g\n\np";
+
+/// A text of several parts, in which references are before their definitions, and lists are loose and tight.
+const LINKED: &str =
+    "\u{feff}[a] ![b *c*][d]\n\n> - e\n>\n>   [f](g \"h\")\n\n# i\n\n- j\n- k\n\nl\n\n[A]: m 'n&amp;'\n\n[d]: <o>";
 
 /// The size of the request before a call.
 pub const BEFORE: usize = 42_421;
@@ -186,6 +192,42 @@ fn parsed_by_parts(alloc: Global, text: &str, options: &ParseOptions) -> Result<
     printed(alloc, &events, state)
 }
 
+/// All events of a text that is handed over in parts.
+#[derive(Drop)]
+struct Taken {
+    events: Vec<Event>,
+}
+
+impl Sink for Taken {
+    ghost takes = { λ old events new. new.events.items ≡ old.events.items ++ events };
+
+    fn wants_definitions(&self) -> bool {
+        true
+    }
+
+    fn take(&mut self, _ahead: &Ahead, events: Vec<Event>) -> Result<Vec<Event>, Message> {
+        let mut events = events;
+        if self.events.append(&mut events).is_err() {
+            return Err(Message);
+        }
+        Ok(events)
+    }
+}
+
+/// The same of a text that is handed over in parts, each of which ends as soon as it may.
+fn parsed_into(alloc: Global, text: &str, options: &ParseOptions) -> Result<String, Message>
+    requires size { IsSmall text.now }
+    requires built { IsWithoutMdx options.now }
+{
+    let mut taken = Taken {
+        events: Vec::new(alloc),
+    };
+    let _before = mark(alloc, BEFORE)?;
+    let parsed = parse_into(alloc, &Inlines::GFM, text, options, 1, &mut taken);
+    let _after = mark(alloc, AFTER)?;
+    printed(alloc, &taken.events, parsed?)
+}
+
 /// The same, with only the outline between the marks.
 fn outlined(alloc: Global, text: &str, options: &ParseOptions) -> Result<String, Message>
     requires size { IsSmall text.now }
@@ -234,6 +276,18 @@ fn written(alloc: Global, text: &str, options: &ParseOptions) -> Result<String, 
     page
 }
 
+/// The HTML of a text that is read in parts, each of which ends as soon as it may.
+fn written_by_parts(alloc: Global, text: &str, options: &ParseOptions) -> Result<String, Message>
+    requires size { IsSmall text.now }
+    requires built { IsWithoutMdx options.now }
+{
+    let safe = &HtmlOptions::SAFE;
+    let _before = mark(alloc, BEFORE)?;
+    let page = html_with_least(alloc, &Inlines::GFM, text, options, safe, 1);
+    let _after = mark(alloc, AFTER)?;
+    Ok(String::from_utf8(page?).unwrap_or(String::new(alloc)))
+}
+
 /// The text in a quote.
 fn in_quote(alloc: Global, text: &str, options: &ParseOptions) -> Result<String, Message>
     requires { IsSmall text.now }
@@ -268,6 +322,7 @@ fn in_footnote(alloc: Global, text: &str, options: &ParseOptions) -> Result<Stri
 fn answer(alloc: Global, word: &str) -> Result<String, Message> {
     let text = match word {
         "parts" => PARTED,
+        "into" | "html_of" => LINKED,
         "inlines" | "html" => MARKED,
         _ => TEXT,
     };
@@ -280,7 +335,9 @@ fn answer(alloc: Global, word: &str) -> Result<String, Message> {
         "parse_with" => parsed_with(alloc, &References, text, &options),
         "inlines" => parsed_with(alloc, &Inlines::GFM, text, &options),
         "parts" => parsed_by_parts(alloc, text, &options),
+        "into" => parsed_into(alloc, text, &options),
         "html" => written(alloc, text, &options),
+        "html_of" => written_by_parts(alloc, text, &options),
         "outline" => outlined(alloc, text, &options),
         "outline_part" => outlined_part(alloc, text, &options),
         "quote" => in_quote(alloc, text, &options),

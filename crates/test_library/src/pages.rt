@@ -6,7 +6,7 @@ use crate::page_rows::{
 };
 use markdown_blocks::message::Message;
 use markdown_blocks::parser::parse_with;
-use markdown_html::{HtmlOptions, LineEnding, html, html_with_ids};
+use markdown_html::{HtmlOptions, LineEnding, html, html_with_ids, html_with_least};
 use markdown_inlines::Inlines;
 use md_program::body::{Body, MOST};
 use md_program::set::{Set, options};
@@ -35,7 +35,22 @@ fn page(alloc: Global, text: &str, set: Set, asked: &HtmlOptions) -> Result<Stri
     html(alloc, &events, &state, asked)
 }
 
-/// Compares the HTML of texts with what is wanted.
+/// The HTML of a text that is read in parts, each of which ends as soon as it may.
+fn page_by_parts(
+    alloc: Global,
+    text: &str,
+    set: Set,
+    asked: &HtmlOptions,
+) -> Result<Vec<u8>, Message> {
+    if text.len() > MOST {
+        return Err(Message);
+    }
+    let options = Blocks::built(options(set));
+    let inlines = inlines_of(set);
+    html_with_least(alloc, &inlines, text, &options, asked, 1)
+}
+
+/// Compares the HTML of texts with what is wanted: of all their events at once, and part by part.
 fn check(
     rt: &impl Abort,
     alloc: Global,
@@ -46,6 +61,8 @@ fn check(
     for (text, want) in rows {
         let found = page(alloc, text, set, asked)?;
         assert!(rt; found.as_str() == *want, "{text}: {found}");
+        let by_parts = page_by_parts(alloc, text, set, asked)?;
+        assert!(rt; by_parts.as_slice() == want.as_bytes(), "{text}, by parts");
     }
     Ok(())
 }
