@@ -185,6 +185,7 @@ definition
 definitions 2
 = a
 = d
+footnotes 0
 """
 
 LINKED_PAGE = b"""<p><a href="m" title="n&amp;">a</a> <img src="o" alt="b c" /></p>
