@@ -315,6 +315,18 @@ fn staying(events: &[Event], most: usize) -> usize
     1 + passing(&Stays, &events[1..most])
 }
 
+/// An empty list with room for what becomes of so many events: twice as many, as of a text on one line.
+///
+/// An `Err` says that memory ran out.
+fn with_room(alloc: Global, events: usize) -> Result<Vec<Event>, Message>
+    ensures { IfOk result (λ list. list.items ≡ []) }
+{
+    match Vec::with_capacity(alloc, events.saturating_mul(2)) {
+        Ok(list) => Ok(list),
+        Err(_) => Err(Message),
+    }
+}
+
 /// Hands events over part by part, with what the layer reads in the places of their text parts. A part ends after each
 /// of these numbers of events, and after the last event.
 fn read_each<I: Inline, S: Sink>(
@@ -334,9 +346,9 @@ fn read_each<I: Inline, S: Sink>(
     let mut found = Answer::nothing(alloc);
     let mut chunks = Vec::new(alloc);
     let mut places = Places::of(events);
-    let mut list = Vec::new(alloc);
     let mut left = events;
     let (stop, further) = next_stop(events.len(), ends, left.len());
+    let mut list = with_room(alloc, events.len().saturating_sub(stop))?;
     let mut ends = Ends {
         all: events.len(),
         stop,

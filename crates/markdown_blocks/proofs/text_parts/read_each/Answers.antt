@@ -37,7 +37,7 @@ loop-left-init g c =
     let found = c.nothing-found in
     record {
       given = [];
-      handed = handed-first g.S.Sink.takes c.args.sink.now c.new-list.result.items [] (sym c.new-list.ensures.items);
+      handed = handed-first g.S.Sink.takes c.args.sink.now c.in_ok-list.list.items [] (sym c.in_ok-list.ensures);
       substituted =
           leads-first wants_text (text_readings (g.I.Inline.reads c.args.parts.now.inline.now document))
           c.args.events.now c.args.events.now found.result.events.items [] found.result.placed found.result.chunks refl
