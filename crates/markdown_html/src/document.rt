@@ -22,7 +22,6 @@ use md_events::inline::Inline;
 use md_events::labels::Labels;
 use md_events::moving::append;
 use std::alloc::{AllocError, Global};
-use std::mem;
 
 /// What some events list.
 fn survey_of(alloc: Global, events: &[Event]) -> Result<Survey, AllocError> {
@@ -101,7 +100,8 @@ pub fn html_bytes<'a>(
 struct Pages<'a> {
     alloc: Global,
     options: &'a HtmlOptions<'a>,
-    kept: Kept,
+    /// What is written; none before the first part.
+    kept: Option<Kept>,
     /// Where definitions lead; none before the first part.
     definitions: Option<Vec<Target>>,
     notes: Notes,
@@ -132,8 +132,11 @@ impl Pages<'_> {
             forms: &[],
             labels: ahead.labels,
         };
-        let kept = mem::replace(&mut self.kept, Kept::new(alloc, &[]));
-        self.kept = write(known, kept);
+        let kept = match self.kept.take() {
+            Some(kept) => kept,
+            None => Kept::new(alloc, bytes),
+        };
+        self.kept = Some(write(known, kept));
         self.definitions = Some(definitions);
         Ok(())
     }
@@ -171,12 +174,12 @@ fn definitions_ahead(alloc: Global, events: &[Event]) -> Result<Vec<Target>, Mes
 /// so it takes less time and memory.
 ///
 /// The text has at most `parser::MAX_LEN` bytes, and the constructs of MDX are off. An `Err` says that memory ran out.
-pub fn html_of<I: Inline>(
+pub fn html_of<'x, I: Inline>(
     alloc: Global,
     inline: &I,
-    text: &str,
-    parse: &ParseOptions,
-    options: &HtmlOptions,
+    text: &'x str,
+    parse: &'x ParseOptions,
+    options: &'x HtmlOptions<'x>,
 ) -> Result<Vec<u8>, Message>
     requires size { IsSmall text.now }
     requires built { IsWithoutMdx parse.now }
@@ -185,12 +188,12 @@ pub fn html_of<I: Inline>(
 }
 
 /// The same in parts of so many bytes at least.
-pub fn html_with_least<I: Inline>(
+pub fn html_with_least<'x, I: Inline>(
     alloc: Global,
     inline: &I,
-    text: &str,
-    parse: &ParseOptions,
-    options: &HtmlOptions,
+    text: &'x str,
+    parse: &'x ParseOptions,
+    options: &'x HtmlOptions<'x>,
     least: usize,
 ) -> Result<Vec<u8>, Message>
     requires size { IsSmall text.now }
@@ -199,14 +202,15 @@ pub fn html_with_least<I: Inline>(
     let mut pages = Pages {
         alloc,
         options,
-        kept: Kept::new(alloc, text.as_bytes()),
+        kept: None,
         definitions: None,
         notes: Notes::none(alloc),
         all: Vec::new(alloc),
     };
     let state = parse_into(alloc, inline, text, parse, least, &mut pages)?;
-    if state.gfm_footnote_definitions.is_empty() {
-        return pages.kept.html();
+    let Pages { kept, all, .. } = pages;
+    if let Some(kept) = kept {
+        return kept.html();
     }
-    html_bytes(alloc, &pages.all, &state, options, &[])
+    html_bytes(alloc, &all, &state, options, &[])
 }
