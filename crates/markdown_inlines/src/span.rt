@@ -49,6 +49,7 @@ const ROOM: usize = 32;
 /// Adds spans.
 ///
 /// An `Err` says that memory ran out.
+#[inline(always)]
 pub(crate) fn push_spans(spans: &mut Vec<Span>, more: &[Span]) -> Result<(), Message>
     ensures { OnOk result (spans.new.items ≡ spans.old.items ++ more.now) }
 {
