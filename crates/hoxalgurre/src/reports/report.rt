@@ -408,20 +408,19 @@ fn report_html(
     requires built { IsWithoutMdx options.now }
 {
     let bytes = html_of(alloc, wish.html, file, text, options)?;
-    match (wish.format, str::from_utf8(&bytes)) {
-        (Format::Json, Ok(html)) => {
-            let report = json(
-                alloc,
-                &HtmlReport {
-                    version: VERSION,
-                    file,
-                    html,
-                },
-            )?;
-            Ok(report.into_bytes())
-        }
-        _ => Ok(bytes),
+    if wish.format == Format::Text {
+        return Ok(bytes);
     }
+    let html = str::from_utf8(&bytes).unwrap_or("");
+    let report = json(
+        alloc,
+        &HtmlReport {
+            version: VERSION,
+            file,
+            html,
+        },
+    )?;
+    Ok(report.into_bytes())
 }
 
 fn report_headings(
