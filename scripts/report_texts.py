@@ -40,6 +40,7 @@ MADE = [
     "".join(f"[a](<https://example.org/{mark}/and/more>) ![b](<{mark}>) [c](<abcdefghijklmnop{mark}>)\n\n"
             for mark in (*"\0\1\x7f \"&'*[]^_`{|}~\xe9", "\\a")),
     "A line\nof text\n*and one* of\nit ![an image\nof lines\nand](b \"c\nd\") in\r\nthe [f\ng](h) `i\nj`\nk\n",
+    "Lines\nof ![an image\nof lines](b) and `c\nd`[^e]\n\n> [f\n> g]\n\n[f g]: h\n[^e]: i\n",
 ]
 
 

@@ -1,11 +1,11 @@
--- Parts of some events that are handed over one after the other.
+-- Events that are handed over, some at a time.
 use Rattle.std.proofs.Common.{◌≡◌, List, [], ◌∷◌, ◌++◌, length, append-nil, append_assoc, refl, ap, sym, ◌∙◌, subst, arith}
 use Rattle.md_engine.specs.declared.event.Event.{Event}
 use Rattle.md_events.specs.Events.Inline.{together}
-use Rattle.markdown_blocks.specs.Taken.{AreHanded, AreTaken}
+use Rattle.markdown_blocks.specs.Taken.{AreTaken}
 
--- one more part
-taken-more : {S : Type 0} (takes : S → List Event → S → Type 0) (old now new : S) (parts : List (List Event))
+-- more are taken
+pub taken-more : {S : Type 0} (takes : S → List Event → S → Type 0) (old now new : S) (parts : List (List Event))
     (part : List Event) →
     AreTaken takes old parts now → takes now part new → AreTaken takes old (parts ++ part ∷ []) new
 taken-more takes old now new [] part is takes_it =
@@ -13,42 +13,13 @@ taken-more takes old now new [] part is takes_it =
 taken-more takes old now new (first ∷ parts) part taken takes_it =
     (taken.0, taken.1, taken-more takes taken.0 now new parts part taken.2 takes_it)
 
-together-more : (parts : List (List Event)) (part : List Event) →
+pub together-more : (parts : List (List Event)) (part : List Event) →
     together (parts ++ part ∷ []) ≡ together parts ++ part
 together-more [] part = append-nil part
 together-more (first ∷ parts) part =
     ap (λ (l : List Event). first ++ l) (together-more parts part) ∙ sym (append_assoc first (together parts) part)
 
--- nothing is handed over yet
-pub handed-first : {S : Type 0} (takes : S → List Event → S → Type 0) (old : S) (left events : List Event) →
-    events ≡ left → AreHanded takes old old left events
-handed-first takes old left events is = record { parts = []; taken = refl; are = is }
-
--- more events are read
-pub handed-events : {S : Type 0} (takes : S → List Event → S → Type 0) (old new : S) (left now events more : List Event) →
-    now ≡ left ++ more → AreHanded takes old new left events → AreHanded takes old new now (events ++ more)
-handed-events takes old new left now events more is handed = record {
-  parts = handed.parts;
-  taken = handed.taken;
-  are =
-      ap (λ (l : List Event). l ++ more) handed.are
-      ∙ append_assoc (together handed.parts) left more
-      ∙ ap (λ (l : List Event). together handed.parts ++ l) (sym is);
-}
-
--- what is left is handed over
-pub handed-part : {S : Type 0} (takes : S → List Event → S → Type 0) (old now new : S) (left none events : List Event) →
-    takes now left new → none ≡ [] → AreHanded takes old now left events → AreHanded takes old new none events
-handed-part takes old now new left none events takes_it empty handed = record {
-  parts = handed.parts ++ left ∷ [];
-  taken = taken-more takes old now new handed.parts left handed.taken takes_it;
-  are =
-      handed.are ∙ sym (together-more handed.parts left)
-      ∙ sym (append-nil (together (handed.parts ++ left ∷ [])))
-      ∙ ap (λ (l : List Event). together (handed.parts ++ left ∷ []) ++ l) (sym empty);
-}
-
--- Who keeps all events in one list has those of all parts.
+-- Who keeps all events in one list has all that were handed over.
 pub all-events : {S : Type 0} (events_of : S → List Event) (old new : S) (parts : List (List Event)) →
     AreTaken (λ (s : S) (events : List Event) (t : S). events_of t ≡ events_of s ++ events) old parts new →
     events_of new ≡ events_of old ++ together parts

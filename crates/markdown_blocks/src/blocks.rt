@@ -1,13 +1,16 @@
 // All blocks of a text, which are read part by part.
 //
-// Flow adds the events of a part to a list, and then its content is read, its lines are joined and its resolvers run.
-// Each of these reads all events of the part: so they find them in a cache, which does not hold the events of a large text.
+// Flow adds the events of a part to a list, and then its content is read, its lines are joined, its resolvers run, and it
+// is noted where its definitions are. Each of these reads all events of the part: so they find them in a cache, which does
+// not hold the events of a large text.
 
-ghost use Rattle.std.specs.Prelude.{◌≡◌, ◌++◌, IfOk, OnOk, []};
+ghost use Rattle.std.specs.Prelude.{◌≡◌, ◌+◌, ◌<◌, ◌^◌, ◌++◌, IfOk, OnOk, [], length, true};
 ghost use Rattle.md_meaning.specs.Label.{both};
+ghost use Rattle.markdown_blocks.specs.Definitions.{marked};
 ghost use Rattle.markdown_blocks.specs.Parsed.{IsSmall, IsWithoutMdx};
 ghost use Rattle.markdown_blocks.specs.PartRead.{AreAllBlocks, labels_of};
 
+use crate::definitions::mark_definitions;
 use crate::parser::read_front;
 use crate::parts::{Part, point_in, read_at_least};
 use md_engine::configuration::ParseOptions;
@@ -69,16 +72,24 @@ fn add_part(all: &mut Part, part: Part) -> Result<Vec<Event>, Message>
     Ok(spare)
 }
 
-/// Notes that a part ends after so many events.
-fn push_end(ends: &mut Vec<usize>, end: usize) -> Result<(), Message> {
-    match ends.push(end) {
-        Ok(()) => Ok(()),
-        Err(_) => Err(Message),
+/// Adds where the events of definitions are among these, which so many are before, if they are wanted.
+fn mark_if(
+    wants_marks: bool,
+    marks: &mut Vec<usize>,
+    before: usize,
+    events: &[Event],
+) -> Result<(), Message>
+    requires { before + length events.now < 2 ^ 64 }
+    ensures { OnOk result (wants_marks ≡ true → marks.new.items ≡ marks.old.items ++ marked before events.now) }
+{
+    if wants_marks {
+        mark_definitions(marks, before, events)?;
     }
+    Ok(())
 }
 
 /// Reads the blocks of a text, whose text parts are not read, in parts of so many bytes at least: all events, those of its
-/// front first, and all labels; and after how many events the front and each part ends.
+/// front first, and all labels; and, if they are wanted, where the events of definitions are.
 ///
 /// An `Err` says that memory ran out.
 pub(crate) fn read_blocks(
@@ -86,10 +97,13 @@ pub(crate) fn read_blocks(
     text: &[u8],
     options: &ParseOptions,
     least: usize,
+    wants_marks: bool,
 ) -> Result<(Part, Vec<usize>), Message>
     requires small { IsSmall text.now }
     requires built { IsWithoutMdx options.now }
-    ensures { IfOk result (λ read. AreAllBlocks options.now text.now read.0) }
+    ensures read { IfOk result (λ read. AreAllBlocks options.now text.now read.0) }
+    ensures marks { IfOk result
+        (λ read. wants_marks ≡ true → read.1.items ≡ marked 0 read.0.events.items) }
 {
     let front = read_front(alloc, text, options)?;
     let mut next = point_in(text, front.point);
@@ -98,17 +112,17 @@ pub(crate) fn read_blocks(
         definitions: Vec::new(alloc),
         gfm_footnote_definitions: Vec::new(alloc),
     };
-    let mut ends = Vec::new(alloc);
-    push_end(&mut ends, all.events.len())?;
+    let mut marks = Vec::new(alloc);
+    mark_if(wants_marks, &mut marks, 0, &all.events)?;
     let mut spare = Vec::new(alloc);
     while let Some(start) = next {
         if spare.capacity() == 0 {
             spare = with_room(alloc, &text[start.index..])?;
         }
         let (part, after) = read_at_least(alloc, text, options, start, least, &mut spare)?;
+        mark_if(wants_marks, &mut marks, all.events.len(), &part.events)?;
         spare = add_part(&mut all, part)?;
-        push_end(&mut ends, all.events.len())?;
         next = after;
     }
-    Ok((all, ends))
+    Ok((all, marks))
 }

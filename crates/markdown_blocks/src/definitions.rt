@@ -1,12 +1,12 @@
 // Where the definitions of a text lead, and their titles, before its parts are read: a reference may be before its
 // definition.
 
-ghost use Rattle.std.specs.Prelude.{◌≡◌, ◌++◌, ◌∷◌, IfOk, List, OnOk, true};
+ghost use Rattle.std.specs.Prelude.{◌≡◌, ◌<◌, ◌+◌, ◌^◌, ◌++◌, ◌∷◌, IfOk, List, OnOk, length, true};
 ghost use Rattle.md_engine.specs.declared.event.Event.{Event};
 ghost use Rattle.md_events.specs.Events.Tiles.{part_at, part_kind};
 ghost use Rattle.md_events.specs.TextPart.{AreBlocks, AreLabelsOf, document_of};
 ghost use Rattle.markdown_blocks.specs.Definitions.{AreDefinitions, AreRead, is_definition_string, is_of_definition};
-ghost use Rattle.markdown_blocks.specs.Definitions.{is_other};
+ghost use Rattle.markdown_blocks.specs.Definitions.{is_about_definition, is_outside, marked};
 ghost use Rattle.markdown_blocks.specs.PartPlaces.{chunks_in};
 
 use crate::part_places::{chunk_at, ends_part};
@@ -39,16 +39,64 @@ fn is_of_definition(name: Name) -> bool
     matches!(name, Name::Definition) || is_definition_string(name)
 }
 
-/// That none of these does with an event, as a test.
-struct IsOther;
+/// Whether a definition, or what is within one, begins or ends with an event of this name. These names are neighbours, so
+/// this is one comparison.
+#[inline(always)]
+fn is_about_definition(name: Name) -> bool
+    ensures { result ≡ is_about_definition name }
+{
+    matches!(
+        name,
+        Name::Definition
+            | Name::DefinitionLabel
+            | Name::DefinitionLabelMarker
+            | Name::DefinitionLabelString
+            | Name::DefinitionMarker
+            | Name::DefinitionDestination
+            | Name::DefinitionDestinationLiteral
+            | Name::DefinitionDestinationLiteralMarker
+            | Name::DefinitionDestinationRaw
+            | Name::DefinitionDestinationString
+            | Name::DefinitionTitle
+            | Name::DefinitionTitleMarker
+            | Name::DefinitionTitleString
+    )
+}
 
-impl Test for IsOther {
-    ghost passes = { λ test. is_other };
+/// That an event is of no definition and within none, as a test.
+struct IsOutside;
+
+impl Test for IsOutside {
+    ghost passes = { λ test. is_outside };
 
     #[inline(always)]
     fn passes(&self, event: &Event) -> bool {
-        !is_of_definition(event.name)
+        !is_about_definition(event.name)
     }
+}
+
+/// Adds where the events of definitions are among these, which so many are before: their enters and exits, and those of
+/// their destinations and titles.
+///
+/// An `Err` says that memory ran out.
+pub(crate) fn mark_definitions(
+    marks: &mut Vec<usize>,
+    before: usize,
+    events: &[Event],
+) -> Result<(), Message>
+    requires { before + length events.now < 2 ^ 64 }
+    ensures { OnOk result (marks.new.items ≡ marks.old.items ++ marked before events.now) }
+{
+    let mut at = 0;
+    while at < events.len() {
+        if is_of_definition(events[at].name) {
+            push(marks, before + at)?;
+            at += 1;
+        } else {
+            at += 1 + passing(&IsOutside, &events[at + 1..]);
+        }
+    }
+    Ok(())
 }
 
 /// Lists the chunks of a text part, by the events after the one with which it begins.
@@ -109,7 +157,7 @@ fn read_string<I: Inline>(
     inline.read_part(alloc, part, state, labels, answer)
 }
 
-/// The definitions among the blocks of a text, as `Ahead` has them.
+/// The definitions among the blocks of a text, as `Ahead` has them, given where their events are.
 ///
 /// An `Err` says that memory ran out.
 pub(crate) fn read_definitions<I: Inline>(
@@ -118,35 +166,34 @@ pub(crate) fn read_definitions<I: Inline>(
     state: &ParseState,
     labels: &Labels,
     blocks: &[Event],
+    marks: &[usize],
 ) -> Result<Vec<Event>, Message>
     requires are { AreBlocks (document_of state.now) blocks.now }
     requires labels { AreLabelsOf (document_of state.now) labels.now }
+    requires marks { marks.now ≡ marked 0 blocks.now }
     ensures { IfOk result
         (λ all. AreDefinitions (I.reads inline.now (document_of state.now)) blocks.now all.items) }
 {
     let mut all = Vec::new(alloc);
     let mut chunks = Vec::new(alloc);
     let mut answer = Vec::new(alloc);
-    let mut left = blocks;
-    while let [event, rest @ ..] = left {
-        if is_of_definition(event.name) {
-            push(&mut all, *event)?;
-            read_string(
-                alloc,
-                inline,
-                state,
-                labels,
-                blocks,
-                event,
-                rest,
-                &mut chunks,
-                &mut answer,
-            )?;
-            append(&mut all, &answer)?;
-            left = rest;
-        } else {
-            left = &rest[passing(&IsOther, rest)..];
-        }
+    let mut left = marks;
+    while let [mark, further @ ..] = left {
+        let event = &blocks[*mark];
+        push(&mut all, *event)?;
+        read_string(
+            alloc,
+            inline,
+            state,
+            labels,
+            blocks,
+            event,
+            &blocks[*mark + 1..],
+            &mut chunks,
+            &mut answer,
+        )?;
+        append(&mut all, &answer)?;
+        left = further;
     }
     Ok(all)
 }

@@ -367,7 +367,7 @@ pub fn parse_with<'a, I: Inline>(
         (λ parsed. IsRead (I.reads inline.now) value.now options.now parsed.0.items parsed.1) }
 {
     let bytes = value.as_bytes();
-    let (blocks, _ends) = read_blocks(alloc, bytes, options, LEAST)?;
+    let (blocks, _marks) = read_blocks(alloc, bytes, options, LEAST, false)?;
     let state = ParseState {
         options,
         bytes,
@@ -378,15 +378,14 @@ pub fn parse_with<'a, I: Inline>(
     Ok((events, state))
 }
 
-/// Reads a text as `parse_with` does, and hands its events over part by part. So memory follows the blocks of the text
-/// and the largest part, and what the layer finds in a part is taken while it lies in a cache.
+/// Reads a text as `parse_with` does, and hands its events over, some at a time. So they are never in one list, and what
+/// the layer finds is taken while it lies in a cache.
 ///
-/// The parts, one after the other, are the events that `parse_with` may return. Each is of whole blocks of so many bytes
-/// at least (`LEAST` is a good number), and ends where one of `Parts` does; the byte order mark and the frontmatter are
-/// one of their own. The last may have no event.
+/// What is handed over, one after the other, are the events that `parse_with` may return. The blocks are read in parts of
+/// so many bytes at least, which end where those of `Parts` do: `LEAST` is a good number.
 ///
 /// What is asked of the text and of the options is as for `parse_with`. An `Err` says that memory ran out, or is that of
-/// the sink; some parts may have been handed over before it.
+/// the sink; some events may have been handed over before it.
 pub fn parse_into<'a, I: Inline, S: Sink>(
     alloc: Global,
     inline: &I,
@@ -403,7 +402,8 @@ pub fn parse_into<'a, I: Inline, S: Sink>(
         × IsRead (I.reads inline.now) value.now options.now (together parts) state) }
 {
     let bytes = value.as_bytes();
-    let (blocks, ends) = read_blocks(alloc, bytes, options, least)?;
+    let wants = sink.wants_definitions();
+    let (blocks, marks) = read_blocks(alloc, bytes, options, least, wants)?;
     let Part {
         events,
         definitions,
@@ -415,7 +415,8 @@ pub fn parse_into<'a, I: Inline, S: Sink>(
         definitions,
         gfm_footnote_definitions,
     };
-    hand_over(alloc, inline, &state, &events, &ends, sink)?;
+    let marks = if wants { Some(marks.as_slice()) } else { None };
+    hand_over(alloc, inline, &state, &events, marks, sink)?;
     Ok(state)
 }
 

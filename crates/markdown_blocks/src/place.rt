@@ -115,7 +115,7 @@ pub fn place_of(
     if !is_without_mdx(state.options) {
         return Err(Message);
     }
-    let (blocks, _ends) = read_blocks(alloc, state.bytes, state.options, LEAST)?;
+    let (blocks, _marks) = read_blocks(alloc, state.bytes, state.options, LEAST, false)?;
     match place_among(&blocks.events, kind, chunks) {
         Some(place) => Ok(place),
         None => Err(Message),

@@ -1,6 +1,6 @@
-// Who takes the events of a text part by part.
+// Who takes the events of a text, some at a time.
 
-ghost use Rattle.std.specs.Prelude.{◌≡◌, ◌++◌, List, OnOk};
+ghost use Rattle.std.specs.Prelude.{◌≡◌, ◌≤◌, ◌-◌, ◌++◌, List, OnOk, drop, length, take};
 ghost use Rattle.md_engine.specs.declared.event.Event.{Event};
 
 use md_engine::event::Event;
@@ -8,9 +8,8 @@ use md_engine::message::Message;
 use md_engine::parse_state::ParseState;
 use md_events::labels::Labels;
 use md_events::moving::append;
-use std::mem;
 
-/// What is known of a text before its first part is handed over.
+/// What is known of a text before its first events are handed over.
 #[derive(Drop)]
 pub struct Ahead<'a, 'b, 'c> {
     /// The text, the options, and the labels of its definitions.
@@ -23,7 +22,7 @@ pub struct Ahead<'a, 'b, 'c> {
     pub definitions: &'c [Event],
 }
 
-/// Takes the events of a text part by part.
+/// Takes the events of a text, some at a time.
 pub trait Sink {
     /// How a sink is after it took events, by how it was.
     ghost takes: { Self → List Event → Self → Type 0 };
@@ -33,11 +32,14 @@ pub trait Sink {
         false
     }
 
-    /// Takes the events of the next part. Returns a list for those of the part after it, whatever is in it.
+    /// Takes the next events: those of a list from one index to another. They are of the blocks, and then those of the
+    /// blocks further on follow in the list, with their text parts not read; or they are what the layer found in a piece of
+    /// a text part, and then what it found in the whole part is in the list.
     ///
-    /// After an `Err` no part is handed over any more.
-    fn take(&mut self, ahead: &Ahead, events: Vec<Event>) -> Result<Vec<Event>, Message>
-        ensures { OnOk result (takes self.old events.items self.new) };
+    /// After an `Err` nothing is handed over any more.
+    fn take(&mut self, ahead: &Ahead, list: &[Event], from: usize, to: usize) -> Result<(), Message>
+        requires { (from ≤ to) × (to ≤ length list.now) }
+        ensures { OnOk result (takes self.old (take (to - from) (drop from list.now)) self.new) };
 }
 
 /// All events, in one list.
@@ -49,11 +51,14 @@ pub(crate) struct All {
 impl Sink for All {
     ghost takes = { λ old events new. new.events.items ≡ old.events.items ++ events };
 
-    fn take(&mut self, _ahead: &Ahead, events: Vec<Event>) -> Result<Vec<Event>, Message> {
-        if self.events.is_empty() {
-            return Ok(mem::replace(&mut self.events, events));
-        }
-        append(&mut self.events, &events)?;
-        Ok(events)
+    #[inline(always)]
+    fn take(
+        &mut self,
+        _ahead: &Ahead,
+        list: &[Event],
+        from: usize,
+        to: usize,
+    ) -> Result<(), Message> {
+        append(&mut self.events, &list[from..to])
     }
 }

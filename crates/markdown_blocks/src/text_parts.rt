@@ -1,9 +1,9 @@
 // Text parts, as an inline layer reads them.
 //
 // A layer that finds nothing but lines is asked for no part: the parser reads the lines itself. Any other layer is asked
-// for each part once it is known where all parts are, with the labels of the document made ready to be looked up.
+// for each part with its place, and with the labels of the document made ready to be looked up.
 
-ghost use Rattle.std.specs.Prelude.{◌≡◌, ◌+◌, ◌-◌, ◌<◌, ◌≤◌, ◌++◌, IfOk, List, None, OnOk, [], drop, length, suc, take};
+ghost use Rattle.std.specs.Prelude.{◌≡◌, ◌+◌, ◌-◌, ◌<◌, ◌≤◌, IfOk, IfSome, List, None, OnOk, [], drop, length, suc, take};
 ghost use Rattle.std.specs.List.{prefix_len};
 ghost use Rattle.md_engine.specs.declared.event.Event.{Event};
 ghost use Rattle.md_events.specs.Events.Inline.{together};
@@ -11,7 +11,8 @@ ghost use Rattle.md_events.specs.Parts.{ArePlaced};
 ghost use Rattle.md_events.specs.Substituted.{Begun, Substituted, belongs, chunks_from, share, stays, wanted};
 ghost use Rattle.md_events.specs.TextPart.{AreBlocks, AreLabelsOf, IsTextPart, document_of};
 ghost use Rattle.md_events.specs.TextPart.{text_kind, text_readings, wants_text};
-ghost use Rattle.markdown_blocks.specs.Taken.{AreHanded, AreTaken};
+ghost use Rattle.markdown_blocks.specs.Taken.{AreTaken};
+ghost use Rattle.markdown_blocks.specs.Definitions.{marked};
 ghost use Rattle.markdown_blocks.specs.PartPlaces.{IsNext, places_after, places_from};
 
 use crate::definitions::read_definitions;
@@ -22,12 +23,10 @@ use md_engine::message::Message;
 use md_engine::parse_state::ParseState;
 use md_events::inline::{Chunk, Inline, PartKind, TextPart};
 use md_events::labels::Labels;
-use md_events::moving::append;
 use md_events::names::is_prefix;
 use md_events::subtokenize::{Reader, push_chunk, subtokenize};
 use md_events::walks::{Test, passing};
 use std::alloc::Global;
-use std::mem;
 
 /// What a part of this content may hold.
 fn kind_of(content: Content) -> PartKind
@@ -182,17 +181,17 @@ impl Answer {
         }
     }
 
-    /// Appends what belongs to the next chunk, which ends at the byte `end`.
+    /// Has in its place what belongs to the next chunk, which ends at the byte `end`. Returns how many events are then.
     #[inline(always)]
-    fn place(&mut self, all: &mut Vec<Event>, end: usize) -> Result<(), Message>
+    fn place(&mut self, end: usize) -> usize
         requires { 0 < self.old.chunks }
-        ensures chunks { OnOk result (self.new.chunks + 1 ≡ self.old.chunks) }
+        ensures chunks { self.new.chunks + 1 ≡ self.old.chunks }
+        ensures events { self.new.events.items ≡ self.old.events.items }
+        ensures within { (self.old.placed ≤ result) × (result ≤ length self.new.events.items) }
         ensures placed { let left = drop self.old.placed self.old.events.items in
-            OnOk result
-            (all.new.items ≡ all.old.items ++ take (share (self.old.chunks - 1) left end) left) }
+            take (result - self.old.placed) left ≡ take (share (self.old.chunks - 1) left end) left }
         ensures left { let left = drop self.old.placed self.old.events.items in
-            OnOk result (drop self.new.placed self.new.events.items ≡ drop (share (self.old.chunks - 1) left end)
-            left) }
+            drop self.new.placed self.new.events.items ≡ drop (share (self.old.chunks - 1) left end) left }
     {
         let left = &self.events[self.placed..];
         let many = if self.chunks > 1 {
@@ -200,10 +199,9 @@ impl Answer {
         } else {
             left.len()
         };
-        append(all, &left[..many])?;
         self.placed += many;
         self.chunks -= 1;
-        Ok(())
+        self.placed
     }
 }
 
@@ -250,90 +248,21 @@ fn or_read<I: Inline>(
     Ok(())
 }
 
-/// How many of so many events are left after the next of some ends before which some of those that are left now are; none
-/// where there is no such end. Returns the further ends, too.
-fn next_stop(all: usize, ends: &[usize], left: usize) -> (usize, &[usize])
-    ensures { 0 < left → result.0 < left }
-{
-    let mut further = ends;
-    while let [end, rest @ ..] = further {
-        further = rest;
-        let stop = all.saturating_sub(*end);
-        if stop < left {
-            return (stop, further);
-        }
-    }
-    (0, further)
-}
-
-/// After how many events parts end.
-#[derive(Drop)]
-struct Ends<'e> {
-    /// How many events there are.
-    all: usize,
-    /// How many are left where the part ends that is read.
-    stop: usize,
-    /// After how many the parts end that follow it.
-    further: &'e [usize],
-}
-
-/// Hands a part over, if it ends here, where so many events are left.
-fn end_part<S: Sink>(
-    alloc: Global,
-    ahead: &Ahead,
-    ends: &mut Ends,
-    left: usize,
-    list: &mut Vec<Event>,
-    sink: &mut S,
-) -> Result<(), Message>
-    requires { 0 < left }
-    ensures stop { OnOk result (ends.new.stop < left) }
-    ensures handed { OnOk result
-        ((first : S) (events : List Event) → AreHanded S.takes first sink.old list.old.items events →
-        AreHanded S.takes first sink.new list.new.items events) }
-{
-    if left > ends.stop {
-        return Ok(());
-    }
-    let events = mem::replace(list, Vec::new(alloc));
-    let mut spare = sink.take(ahead, events)?;
-    spare.clear();
-    *list = spare;
-    let (stop, further) = next_stop(ends.all, ends.further, left);
-    ends.stop = stop;
-    ends.further = further;
-    Ok(())
-}
-
-/// How many of these events stay, of so many in front at most. The first is known to.
-fn staying(events: &[Event], most: usize) -> usize
-    requires { (0 < most) × (most ≤ length events.now) }
+/// How many of these events stay. The first is known to.
+fn staying(events: &[Event]) -> usize
+    requires { 0 < length events.now }
     ensures some { 0 < result }
     ensures within { result ≤ length events.now }
     ensures stay { result ≤ suc (prefix_len (stays wants_text) (drop 1 events.now)) }
 {
-    1 + passing(&Stays, &events[1..most])
+    1 + passing(&Stays, &events[1..])
 }
 
-/// An empty list with room for what becomes of so many events: twice as many, as of a text on one line.
-///
-/// An `Err` says that memory ran out.
-fn with_room(alloc: Global, events: usize) -> Result<Vec<Event>, Message>
-    ensures { IfOk result (λ list. list.items ≡ []) }
-{
-    match Vec::with_capacity(alloc, events.saturating_mul(2)) {
-        Ok(list) => Ok(list),
-        Err(_) => Err(Message),
-    }
-}
-
-/// Hands events over part by part, with what the layer reads in the places of their text parts. A part ends after each
-/// of these numbers of events, and after the last event.
+/// Hands events over, with what the layer reads in the places of their text parts.
 fn read_each<I: Inline, S: Sink>(
     alloc: Global,
     parts: &TextParts<I>,
     events: &[Event],
-    ends: &[usize],
     sink: &mut S,
 ) -> Result<(), Message>
     requires are { AreBlocks (document_of parts.now.ahead.now.state.now) events.now }
@@ -347,15 +276,7 @@ fn read_each<I: Inline, S: Sink>(
     let mut chunks = Vec::new(alloc);
     let mut places = Places::of(events);
     let mut left = events;
-    let (stop, further) = next_stop(events.len(), ends, left.len());
-    let mut list = with_room(alloc, events.len().saturating_sub(stop))?;
-    let mut ends = Ends {
-        all: events.len(),
-        stop,
-        further,
-    };
     while let [event, ..] = left {
-        end_part(alloc, parts.ahead, &mut ends, left.len(), &mut list, sink)?;
         match text_content(event) {
             Some(content) if left.len() > 1 => {
                 or_read(
@@ -367,22 +288,23 @@ fn read_each<I: Inline, S: Sink>(
                     content,
                     left,
                 )?;
-                found.place(&mut list, left[1].point.index)?;
+                let from = found.placed;
+                let to = found.place(left[1].point.index);
+                sink.take(parts.ahead, &found.events, from, to)?;
                 left = &left[2..];
             }
             _ => {
-                let many = staying(left, left.len() - ends.stop);
-                let (front, following) = left.split_at(many);
-                append(&mut list, front)?;
+                let many = staying(left);
+                sink.take(parts.ahead, left, 0, many)?;
+                let (_taken, following) = left.split_at(many);
                 left = following;
             }
         }
     }
-    let _spare = sink.take(parts.ahead, list)?;
     Ok(())
 }
 
-/// The definitions among the blocks of a text, if they are wanted and there are some.
+/// The definitions among the blocks of a text, given where their events are, if they are wanted.
 ///
 /// An `Err` says that memory ran out.
 fn definitions_ahead<I: Inline>(
@@ -391,21 +313,21 @@ fn definitions_ahead<I: Inline>(
     state: &ParseState,
     labels: &Labels,
     blocks: &[Event],
-    are_wanted: bool,
+    marks: Option<&[usize]>,
 ) -> Result<Vec<Event>, Message>
     requires are { AreBlocks (document_of state.now) blocks.now }
     requires labels { AreLabelsOf (document_of state.now) labels.now }
+    requires marks { IfSome marks (λ at. at.now ≡ marked 0 blocks.now) }
 {
-    if are_wanted && !state.definitions.is_empty() {
-        read_definitions(alloc, inline, state, labels, blocks)
-    } else {
-        Ok(Vec::new(alloc))
+    match marks {
+        Some(marks) => read_definitions(alloc, inline, state, labels, blocks, marks),
+        None => Ok(Vec::new(alloc)),
     }
 }
 
-/// Hands the events of a text over part by part, with what the layer reads in the places of the text parts. It is asked
-/// for each part with its place, and with the labels of the document. Each part ends after one of these numbers of
-/// events, and the last after all.
+/// Hands the events of a text over, with what the layer reads in the places of the text parts. It is asked for each part
+/// with its place, and with the labels of the document. If it is given where the events of definitions are, these are
+/// read ahead.
 ///
 /// An `Err` says that memory ran out, or is that of the sink.
 pub(crate) fn hand_over<'x, I: Inline, S: Sink>(
@@ -413,18 +335,18 @@ pub(crate) fn hand_over<'x, I: Inline, S: Sink>(
     inline: &'x I,
     state: &'x ParseState,
     events: &[Event],
-    ends: &[usize],
+    marks: Option<&[usize]>,
     sink: &mut S,
 ) -> Result<(), Message>
-    requires { AreBlocks (document_of state.now) events.now }
+    requires are { AreBlocks (document_of state.now) events.now }
+    requires marks { IfSome marks (λ at. at.now ≡ marked 0 events.now) }
     ensures { let reads = text_readings (I.reads inline.now (document_of state.now)) in
         OnOk result
         ((all : List (List Event)) × AreTaken S.takes sink.old all sink.new
         × Substituted wants_text reads [] 0 events.now (together all)) }
 {
-    let wants = sink.wants_definitions();
     let labels = Labels::new(alloc, &state.definitions, &state.gfm_footnote_definitions)?;
-    let definitions = definitions_ahead(alloc, inline, state, &labels, events, wants)?;
+    let definitions = definitions_ahead(alloc, inline, state, &labels, events, marks)?;
     let ahead = Ahead {
         state,
         labels: &labels,
@@ -434,7 +356,19 @@ pub(crate) fn hand_over<'x, I: Inline, S: Sink>(
         inline,
         ahead: &ahead,
     };
-    read_each(alloc, &parts, events, ends, sink)
+    read_each(alloc, &parts, events, sink)
+}
+
+/// An empty list with room for what becomes of so many events: twice as many, as of a text on one line.
+///
+/// An `Err` says that memory ran out.
+fn with_room(alloc: Global, events: usize) -> Result<Vec<Event>, Message>
+    ensures { IfOk result (λ list. list.items ≡ []) }
+{
+    match Vec::with_capacity(alloc, events.saturating_mul(2)) {
+        Ok(list) => Ok(list),
+        Err(_) => Err(Message),
+    }
 }
 
 /// The events of a text with what the layer reads in the places of the text parts.
@@ -455,8 +389,8 @@ pub(crate) fn read_text_parts<'x, I: Inline>(
         return subtokenize(alloc, &TextReader { inline, state }, events);
     }
     let mut all = All {
-        events: Vec::new(alloc),
+        events: with_room(alloc, events.len())?,
     };
-    hand_over(alloc, inline, state, &events, &[], &mut all)?;
+    hand_over(alloc, inline, state, &events, None, &mut all)?;
     Ok(all.events)
 }

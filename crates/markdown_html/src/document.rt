@@ -1,16 +1,17 @@
-// The HTML of a text: of all its events at once, or part by part.
+// The HTML of a text: of all its events at once, or as the parser hands them over.
 //
 // What is known only further on, where definitions lead and which footnotes are called, is listed before the page is
-// written. Of a text that is read part by part the parser gives the definitions ahead. Footnotes are numbered by their
-// first calls, and the last section is of those that are shown: so a text with footnotes is written at once.
+// written. Where events are handed over the parser gives the definitions ahead. Footnotes are numbered by their first
+// calls, and the last section is of those that are shown: so a text with footnotes is written at once.
 
+ghost use Rattle.std.specs.Prelude.{◌≤◌, length};
 ghost use Rattle.markdown_blocks.specs.Parsed.{IsSmall, IsWithoutMdx};
 
-use crate::known::{Known, ending_of};
+use crate::known::{Known, Whole, ending_of};
 use crate::memory::push;
 use crate::notes::{Notes, numbered_notes};
 use crate::options::HtmlOptions;
-use crate::page::{Kept, write};
+use crate::page::Page;
 use crate::survey::{Survey, SurveyWalk, Target};
 use crate::tags::is_surveyed;
 use markdown_blocks::parser::{Ahead, LEAST, Sink, parse_into};
@@ -75,70 +76,103 @@ pub fn html_bytes<'a>(
 ) -> Result<Vec<u8>, Message> {
     let forms = &state.gfm_footnote_definitions;
     let labels = Labels::new(alloc, &state.definitions, forms)?;
-    let survey = survey_of(alloc, events)?;
-    let count = forms.len();
-    let notes = numbered_notes(alloc, state.bytes, events, &survey.calls, &labels, count)?;
-    let known = Known {
+    let Survey {
+        definitions,
+        calls,
+        ..
+    } = survey_of(alloc, events)?;
+    let notes = numbered_notes(alloc, state.bytes, events, &calls, &labels, forms.len())?;
+    let whole = Whole {
         alloc,
-        bytes: state.bytes,
-        events,
-        ahead: events,
-        definitions: &survey.definitions,
         options,
         ids,
         ending: ending_of(state.bytes, options.default_line_ending.text()),
-        notes: &notes,
+        definitions,
+        notes,
         forms,
-        labels: &labels,
     };
-    let kept = write(known, Kept::new(alloc, state.bytes));
-    kept.html()
+    let known = Known {
+        bytes: state.bytes,
+        events,
+        ahead: events,
+        labels: &labels,
+        whole: &whole,
+    };
+    let mut page = Page::new(alloc, state.bytes, whole.ending);
+    page.write(&known, 0, events.len());
+    page.write_notes(&known);
+    page.html()
 }
 
-/// Writes a text part by part, if it has no footnotes.
+/// A page on which something is written.
+#[derive(Drop)]
+struct Begun<'a> {
+    page: Page,
+    whole: Whole<'a>,
+}
+
+/// Writes the events of a text as they are handed over, if it has no footnotes.
 #[derive(Drop)]
 struct Pages<'a> {
     alloc: Global,
     options: &'a HtmlOptions<'a>,
-    /// What is written; none before the first part.
-    kept: Option<Kept>,
-    /// Where definitions lead; none before the first part.
-    definitions: Option<Vec<Target>>,
-    notes: Notes,
+    /// None before the first events.
+    begun: Option<Begun<'a>>,
     /// All events, of a text that has footnotes.
     all: Vec<Event>,
 }
 
-impl Pages<'_> {
-    /// Writes a part.
-    fn push(&mut self, ahead: &Ahead, events: &[Event]) -> Result<(), Message> {
-        let alloc = self.alloc;
-        let options = self.options;
+impl<'a> Pages<'a> {
+    /// Begins to write.
+    fn begin(&self, ahead: &Ahead) -> Result<Begun<'a>, Message> {
         let bytes = ahead.state.bytes;
-        let definitions = match self.definitions.take() {
-            Some(definitions) => definitions,
-            None => definitions_ahead(alloc, ahead.definitions)?,
-        };
-        let known = Known {
-            alloc,
-            bytes,
-            events,
-            ahead: ahead.definitions,
-            definitions: &definitions,
-            options,
-            ids: &[],
-            ending: ending_of(bytes, options.default_line_ending.text()),
-            notes: &self.notes,
-            forms: &[],
-            labels: ahead.labels,
-        };
-        let kept = match self.kept.take() {
-            Some(kept) => kept,
-            None => Kept::new(alloc, bytes),
-        };
-        self.kept = Some(write(known, kept));
-        self.definitions = Some(definitions);
+        let ending = ending_of(bytes, self.options.default_line_ending.text());
+        Ok(Begun {
+            page: Page::new(self.alloc, bytes, ending),
+            whole: Whole {
+                alloc: self.alloc,
+                options: self.options,
+                ids: &[],
+                ending,
+                definitions: definitions_ahead(self.alloc, ahead.definitions)?,
+                notes: Notes::none(self.alloc),
+                forms: &[],
+            },
+        })
+    }
+
+    /// Takes the first events, or events of a text with footnotes.
+    fn take_first(
+        &mut self,
+        ahead: &Ahead,
+        list: &[Event],
+        from: usize,
+        to: usize,
+    ) -> Result<(), Message>
+        requires { (from ≤ to) × (to ≤ length list.now) }
+    {
+        if !ahead.state.gfm_footnote_definitions.is_empty() {
+            return append(&mut self.all, &list[from..to]);
+        }
+        let mut begun = self.begin(ahead)?;
+        begun.write(ahead, list, from, to);
+        self.begun = Some(begun);
         Ok(())
+    }
+}
+
+impl Begun<'_> {
+    /// Writes the events of a list from one index to another.
+    #[inline(always)]
+    fn write(&mut self, ahead: &Ahead, list: &[Event], from: usize, to: usize) {
+        let known = Known {
+            bytes: ahead.state.bytes,
+            events: list,
+            ahead: ahead.definitions,
+            labels: ahead.labels,
+            whole: &self.whole,
+        };
+        self.page.write(&known, from, to);
     }
 }
 
@@ -149,13 +183,20 @@ impl Sink for Pages<'_> {
         true
     }
 
-    fn take(&mut self, ahead: &Ahead, events: Vec<Event>) -> Result<Vec<Event>, Message> {
-        if ahead.state.gfm_footnote_definitions.is_empty() {
-            self.push(ahead, &events)?;
-        } else {
-            append(&mut self.all, &events)?;
+    fn take(
+        &mut self,
+        ahead: &Ahead,
+        list: &[Event],
+        from: usize,
+        to: usize,
+    ) -> Result<(), Message> {
+        match &mut self.begun {
+            Some(begun) => {
+                begun.write(ahead, list, from, to);
+                Ok(())
+            }
+            None => self.take_first(ahead, list, from, to),
         }
-        Ok(events)
     }
 }
 
@@ -202,15 +243,13 @@ pub fn html_with_least<'x, I: Inline>(
     let mut pages = Pages {
         alloc,
         options,
-        kept: None,
-        definitions: None,
-        notes: Notes::none(alloc),
+        begun: None,
         all: Vec::new(alloc),
     };
     let state = parse_into(alloc, inline, text, parse, least, &mut pages)?;
-    let Pages { kept, all, .. } = pages;
-    if let Some(kept) = kept {
-        return kept.html();
+    let Pages { begun, all, .. } = pages;
+    if let Some(begun) = begun {
+        return begun.page.html();
     }
     html_bytes(alloc, &all, &state, options, &[])
 }

@@ -10,7 +10,7 @@ use crate::writer::Writer;
 
 /// Whether a footnote has the label that is this text with a number after it.
 fn is_label(known: &Known, out: &mut Writer, text: &str, number: usize) -> bool {
-    let mut label = Writer::new(known.alloc);
+    let mut label = Writer::new(known.whole.alloc);
     label.push(text);
     label.push_number(number);
     out.refuse(label.is_refused());
@@ -23,10 +23,10 @@ fn push_call_id(known: &Known, out: &mut Writer, form: &str, nth: usize) {
         push_id(out, form.as_bytes());
         return;
     }
-    let mut id = Writer::new(known.alloc);
+    let mut id = Writer::new(known.whole.alloc);
     id.push(form);
     id.push("-");
-    for _ in 0..known.forms.len() {
+    for _ in 0..known.whole.forms.len() {
         if !is_label(known, out, id.as_str(), nth) {
             break;
         }
@@ -39,14 +39,14 @@ fn push_call_id(known: &Known, out: &mut Writer, form: &str, nth: usize) {
 
 /// The normal form of the label of a footnote.
 fn form_of<'a>(known: &Known<'a, '_>, note: usize) -> &'a str {
-    match known.forms.get(note) {
+    match known.whole.forms.get(note) {
         Some(form) => form.as_str(),
         None => "",
     }
 }
 
 fn push_prefix(known: &Known, out: &mut Writer) {
-    out.push_escaped(known.options.gfm_footnote_clobber_prefix.as_bytes());
+    out.push_escaped(known.whole.options.gfm_footnote_clobber_prefix.as_bytes());
 }
 
 /// Writes a call.
@@ -72,7 +72,7 @@ fn push_back(known: &Known, out: &mut Writer, form: &str, nth: usize) {
     out.push("fnref-");
     push_call_id(known, out, form, nth);
     out.push("\" data-footnote-backref=\"\" aria-label=\"");
-    out.push_escaped(known.options.gfm_footnote_back_label.as_bytes());
+    out.push_escaped(known.whole.options.gfm_footnote_back_label.as_bytes());
     out.push("\" class=\"data-footnote-backref\">\u{21a9}");
     if nth > 1 {
         out.push("<sup>");
@@ -85,7 +85,7 @@ fn push_back(known: &Known, out: &mut Writer, form: &str, nth: usize) {
 /// Writes the links back to all calls of a footnote.
 fn push_backs(known: &Known, out: &mut Writer, note: usize) {
     let form = form_of(known, note);
-    let count = known.notes.counts.get(note).copied().unwrap_or(0);
+    let count = known.whole.notes.counts.get(note).copied().unwrap_or(0);
     for before in 0..count {
         if before > 0 {
             out.push(" ");
@@ -101,8 +101,10 @@ pub(crate) fn push_note(known: &Known, out: &mut Writer, note: usize, body: &[u8
     out.push("fn-");
     push_id(out, form_of(known, note).as_bytes());
     out.push("\">");
-    out.push(known.ending);
-    let text = body.strip_suffix(known.ending.as_bytes()).unwrap_or(body);
+    out.push(known.whole.ending);
+    let text = body
+        .strip_suffix(known.whole.ending.as_bytes())
+        .unwrap_or(body);
     match text.strip_suffix(b"</p>") {
         Some(before) => {
             out.push_bytes(before);
@@ -115,15 +117,15 @@ pub(crate) fn push_note(known: &Known, out: &mut Writer, note: usize, body: &[u8
             push_backs(known, out, note);
         }
     }
-    out.push(known.ending);
+    out.push(known.whole.ending);
     out.push("</li>");
-    out.push(known.ending);
+    out.push(known.whole.ending);
 }
 
 /// Begins the section of footnotes.
 pub(crate) fn begin_section(known: &Known, out: &mut Writer) {
-    let tag = known.options.gfm_footnote_label_tag_name.as_bytes();
-    let attributes = known.options.gfm_footnote_label_attributes;
+    let tag = known.whole.options.gfm_footnote_label_tag_name.as_bytes();
+    let attributes = known.whole.options.gfm_footnote_label_attributes;
     out.push("<section data-footnotes=\"\" class=\"footnotes\"><");
     out.push_escaped(tag);
     out.push(" id=\"footnote-label\"");
@@ -132,18 +134,18 @@ pub(crate) fn begin_section(known: &Known, out: &mut Writer) {
         out.push(attributes);
     }
     out.push(">");
-    out.push_escaped(known.options.gfm_footnote_label.as_bytes());
+    out.push_escaped(known.whole.options.gfm_footnote_label.as_bytes());
     out.push("</");
     out.push_escaped(tag);
     out.push(">");
-    out.push(known.ending);
+    out.push(known.whole.ending);
     out.push("<ol>");
-    out.push(known.ending);
+    out.push(known.whole.ending);
 }
 
 pub(crate) fn end_section(known: &Known, out: &mut Writer) {
     out.push("</ol>");
-    out.push(known.ending);
+    out.push(known.whole.ending);
     out.push("</section>");
-    out.push(known.ending);
+    out.push(known.whole.ending);
 }

@@ -20,6 +20,8 @@ use std::alloc::Global;
 pub(crate) struct Inside {
     /// The code that is open, or a string.
     scratch: Writer,
+    /// Where the code that is open is in the text, if it is one piece of it: then it is not in `scratch`.
+    code: Option<Piece>,
     /// How many calls have begun.
     calls: usize,
     /// How many links are open, from the one on that is written.
@@ -37,6 +39,22 @@ pub(crate) struct Inside {
     reference: usize,
 }
 
+/// A part of the text.
+#[derive(Clone, Copy)]
+pub(crate) struct Piece {
+    /// The index of its first byte.
+    pub(crate) from: usize,
+    /// The index after its last byte.
+    pub(crate) to: usize,
+}
+
+impl Piece {
+    /// Its bytes.
+    fn bytes<'a>(&self, known: &Known<'a, '_>) -> &'a [u8] {
+        between(known.bytes, self.from, self.to)
+    }
+}
+
 /// Where a text is.
 #[derive(Clone, Copy)]
 pub(crate) struct Around {
@@ -50,6 +68,7 @@ impl Inside {
     pub(crate) fn new(alloc: Global) -> Inside {
         Inside {
             scratch: Writer::new(alloc),
+            code: None,
             calls: 0,
             links: 0,
             images: 0,
@@ -80,22 +99,29 @@ impl Inside {
         around.is_text && !self.is_hidden && self.images == 0
     }
 
-    /// Begins a part; a link or an image leads to this target.
-    pub(crate) fn enter(
+    /// Begins a link, an image or a call of a footnote. A link or an image leads to this target.
+    pub(crate) fn enter_media(
         &mut self,
         known: &Known,
         out: &mut Writer,
-        event: &Event,
+        name: Name,
         target: Option<Target>,
         around: Around,
     ) {
-        match event.name {
+        match name {
             Name::Link => self.begin_link(known, out, target, around),
             Name::Image => self.begin_image(known, out, target, around),
-            Name::GfmFootnoteCall => self.begin_call(known, out, around),
+            _ => self.begin_call(known, out, around),
+        }
+    }
+
+    /// Begins another part.
+    pub(crate) fn enter(&mut self, out: &mut Writer, event: &Event, around: Around) {
+        match event.name {
             Name::Resource | Name::Reference => self.is_hidden = true,
             Name::CodeText | Name::MathText => {
                 self.is_code = true;
+                self.code = None;
                 self.scratch.clear();
             }
             Name::CharacterReference => self.reference = event.point.index,
@@ -105,22 +131,23 @@ impl Inside {
         }
     }
 
-    /// Ends a part; `piece` are the bytes from the last enter to here.
+    /// Ends a part; `piece` is what is from the last enter to here.
     pub(crate) fn exit(
         &mut self,
         known: &Known,
         out: &mut Writer,
         event: &Event,
-        piece: &[u8],
+        piece: Piece,
         around: Around,
     ) {
         match event.name {
             Name::Link => self.end_link(out, around),
             Name::Image => self.end_image(known, out),
             Name::Resource | Name::Reference | Name::GfmFootnoteCall => self.is_hidden = false,
-            Name::CodeTextData | Name::MathTextData => self.push_source(piece, around),
-            Name::CodeText => self.end_code(out, "<code>", around),
+            Name::CodeTextData | Name::MathTextData => self.push_code(known, piece, around),
+            Name::CodeText => self.end_code(known, out, "<code>", around),
             Name::MathText => self.end_code(
+                known,
                 out,
                 "<code class=\"language-math math-inline\">",
                 around,
@@ -136,11 +163,13 @@ impl Inside {
         known: &Known,
         out: &mut Writer,
         event: &Event,
-        piece: &[u8],
+        piece: Piece,
         around: Around,
     ) {
         match event.name {
-            Name::CharacterEscapeValue => out.push_escaped(piece),
+            Name::CharacterEscapeValue => {
+                out.push_escaped_within(known.bytes, piece.from, piece.to);
+            }
             Name::CharacterReference => self.push_character(known, out, event.point.index),
             Name::HtmlTextData => self.push_html(known, out, piece, around),
             Name::GfmTaskListItemCheck => self.push_check(out),
@@ -162,8 +191,15 @@ impl Inside {
     }
 
     /// Ends a line with this ending. In code and in the text of an image it is a space.
-    pub(crate) fn end_line(&mut self, out: &mut Writer, ending: &[u8], around: Around) {
+    pub(crate) fn end_line(
+        &mut self,
+        known: &Known,
+        out: &mut Writer,
+        ending: &[u8],
+        around: Around,
+    ) {
         if self.is_code {
+            self.gather_code(known);
             self.scratch.push(" ");
         } else if self.is_shown(around) {
             if self.images > 0 {
@@ -241,7 +277,7 @@ impl Inside {
         let place = self.calls;
         self.calls = place.saturating_add(1);
         if self.is_tagged(around) {
-            if let Some(call) = known.notes.calls.get(place) {
+            if let Some(call) = known.whole.notes.calls.get(place) {
                 if call.number > 0 {
                     push_call(known, out, *call);
                 }
@@ -263,7 +299,7 @@ impl Inside {
 
     fn push_destination(&mut self, known: &Known, out: &mut Writer, string: Span, is_image: bool) {
         let address = self.read(known, string);
-        if known.options.allow_dangerous_protocol || is_safe(address, is_image) {
+        if known.whole.options.allow_dangerous_protocol || is_safe(address, is_image) {
             push_address(out, address);
         }
     }
@@ -278,23 +314,52 @@ impl Inside {
         out.push("\"");
     }
 
-    /// Adds bytes to the code that is open. In a cell a `|` has a backslash before it, which is not of the code.
-    fn push_source(&mut self, piece: &[u8], around: Around) {
+    /// Adds bytes. In a cell a `|` has a backslash before it, which is not of the code.
+    fn push_source(&mut self, bytes: &[u8], around: Around) {
         if around.is_cell {
-            self.scratch.push_unbarred(piece);
+            self.scratch.push_unbarred(bytes);
         } else {
-            self.scratch.push_bytes(piece);
+            self.scratch.push_bytes(bytes);
         }
     }
 
-    fn end_code(&mut self, out: &mut Writer, tag: &str, around: Around) {
+    /// Adds a piece to the code that is open.
+    fn push_code(&mut self, known: &Known, piece: Piece, around: Around) {
+        if !around.is_cell && self.code.is_none() && self.scratch.bytes().is_empty() {
+            self.code = Some(piece);
+        } else {
+            self.gather_code(known);
+            self.push_source(piece.bytes(known), around);
+        }
+    }
+
+    /// Has the code that is open in `scratch`.
+    fn gather_code(&mut self, known: &Known) {
+        if let Some(piece) = self.code.take() {
+            self.scratch.push_bytes(piece.bytes(known));
+        }
+    }
+
+    fn end_code(&mut self, known: &Known, out: &mut Writer, tag: &str, around: Around) {
         self.is_code = false;
         let is_tagged = self.is_tagged(around);
         if is_tagged {
             out.push(tag);
         }
         if self.is_shown(around) {
-            out.push_escaped(without_padding(self.scratch.bytes()));
+            match self.code {
+                Some(piece) => {
+                    let code = without_padding(piece.bytes(known));
+                    let padding = piece
+                        .to
+                        .saturating_sub(piece.from)
+                        .saturating_sub(code.len())
+                        / 2;
+                    let from = piece.from.saturating_add(padding);
+                    out.push_escaped_within(known.bytes, from, piece.to.saturating_sub(padding));
+                }
+                None => out.push_escaped(without_padding(self.scratch.bytes())),
+            }
         }
         if is_tagged {
             out.push("</code>");
@@ -309,11 +374,11 @@ impl Inside {
         out.push_escaped(self.scratch.bytes());
     }
 
-    fn push_html(&mut self, known: &Known, out: &mut Writer, piece: &[u8], around: Around) {
+    fn push_html(&mut self, known: &Known, out: &mut Writer, piece: Piece, around: Around) {
         self.scratch.clear();
-        self.push_source(piece, around);
+        self.push_source(piece.bytes(known), around);
         let html = self.scratch.bytes();
-        if known.options.allow_dangerous_html && self.images == 0 {
+        if known.whole.options.allow_dangerous_html && self.images == 0 {
             out.push_shown(html);
         } else {
             out.push_escaped(html);
@@ -326,13 +391,13 @@ impl Inside {
         known: &Known,
         out: &mut Writer,
         protocol: &str,
-        piece: &[u8],
+        piece: Piece,
         around: Around,
     ) {
         self.scratch.clear();
-        self.push_source(piece, around);
+        self.push_source(piece.bytes(known), around);
         let address = self.scratch.bytes();
-        let is_allowed = known.options.allow_dangerous_protocol || !protocol.is_empty();
+        let is_allowed = known.whole.options.allow_dangerous_protocol || !protocol.is_empty();
         if self.images > 0 {
             out.push_escaped(address);
             return;

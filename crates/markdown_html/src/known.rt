@@ -7,26 +7,32 @@ use md_engine::event::Event;
 use md_events::labels::Labels;
 use std::alloc::Global;
 
-/// The text, what is known of the whole of it, and what is asked for.
-#[derive(Clone, Copy)]
-pub(crate) struct Known<'a, 'b> {
+/// What is known of a whole text, and what is asked for.
+#[derive(Drop)]
+pub(crate) struct Whole<'a> {
     pub(crate) alloc: Global,
-    pub(crate) bytes: &'a [u8],
-    /// Those events of it that are written.
-    pub(crate) events: &'a [Event],
-    /// Those of its definitions, if they are known ahead.
-    pub(crate) ahead: &'a [Event],
     pub(crate) options: &'a HtmlOptions<'a>,
     /// The `id` of each heading, in the order of the text.
     pub(crate) ids: &'a [String],
     /// The line ending of what the text does not have.
     pub(crate) ending: &'static str,
     /// Where each definition leads, in the order of the text.
-    pub(crate) definitions: &'a [Target],
-    pub(crate) notes: &'a Notes,
+    pub(crate) definitions: Vec<Target>,
+    pub(crate) notes: Notes,
     /// The normal forms of the labels of footnotes, in the order of the text.
     pub(crate) forms: &'a [String],
+}
+
+/// The text, some of its events, and what is known of the whole of it.
+#[derive(Clone, Copy)]
+pub(crate) struct Known<'a, 'b> {
+    pub(crate) bytes: &'a [u8],
+    /// The events of which some are written.
+    pub(crate) events: &'a [Event],
+    /// Those of its definitions, if they are known ahead.
+    pub(crate) ahead: &'a [Event],
     pub(crate) labels: &'a Labels<'b>,
+    pub(crate) whole: &'a Whole<'a>,
 }
 
 impl<'a> Known<'a, '_> {

@@ -6,6 +6,8 @@
 // prefix is on the line, so that the line is blank in the quote alone; and that of a line which is the last one of an
 // open fence, math or HTML, as in `- ~~~`, an empty line, `- a`.
 
+ghost use Rattle.std.specs.Prelude.{◌≤◌, length};
+
 use crate::tags::{is_list_or_blank, is_of_lists};
 use md_engine::event::{Event, Kind, Name};
 use md_events::names::{is_block, is_container};
@@ -170,22 +172,46 @@ fn is_list(name: Name) -> bool {
     matches!(name, Name::ListOrdered | Name::ListUnordered)
 }
 
+/// These events from the first on that is of a list, or of the ending of a blank line. Four are asked at once.
+fn from_list_or_blank(events: &[Event]) -> &[Event]
+    ensures { length result.now ≤ length events.now }
+{
+    let mut left = events;
+    while let [first, second, third, fourth, rest @ ..] = left {
+        if is_list_or_blank(first.name)
+            || is_list_or_blank(second.name)
+            || is_list_or_blank(third.name)
+            || is_list_or_blank(fourth.name)
+        {
+            break;
+        }
+        left = rest;
+    }
+    while let [event, rest @ ..] = left {
+        if is_list_or_blank(event.name) {
+            break;
+        }
+        left = rest;
+    }
+    left
+}
+
 /// The events of the list with which these begin, and whether a line in it is blank.
 fn list_of(ahead: &[Event]) -> (&[Event], bool) {
     let mut open: usize = 0;
     let mut has_blank = false;
-    for (at, event) in ahead.iter().enumerate() {
-        if !is_list_or_blank(event.name) {
-            continue;
-        }
+    let mut left = ahead;
+    while let [event, rest @ ..] = left {
         match (event.name, event.kind) {
             (Name::BlankLineEnding, _) => has_blank = true,
             (_, Kind::Enter) => open = open.saturating_add(1),
             (_, Kind::Exit) => open = open.saturating_sub(1),
         }
         if open == 0 {
-            return (ahead.get(..at).unwrap_or(ahead), has_blank);
+            let many = ahead.len().saturating_sub(left.len());
+            return (ahead.get(..many).unwrap_or(ahead), has_blank);
         }
+        left = from_list_or_blank(rest);
     }
     (ahead, has_blank)
 }

@@ -1,5 +1,4 @@
-// The HTML of a list of events, in one walk from the first to the last: of all events of a text, or of those of some of
-// its blocks after what is written of the blocks before them.
+// The HTML of events, in one walk from the first to the last: all of a text at once, or some at a time.
 //
 // The list nests: a part has an enter and an exit, and what is between them is in the part. So tags are written where
 // parts begin and end, and only little has to be known of what is open. The exit of a piece is right after its enter, and
@@ -11,7 +10,7 @@ ghost use Rattle.std.specs.Prelude.{◌≤◌, length};
 
 use crate::ahead::{Alert, alert_at, atx_heading, list_start, read_columns, setext_heading};
 use crate::footnotes::{begin_section, end_section, push_note};
-use crate::inside::{Around, Inside};
+use crate::inside::{Around, Inside, Piece};
 use crate::known::Known;
 use crate::lists::Lists;
 use crate::media::MediaWalk;
@@ -35,11 +34,13 @@ struct OpenNote {
     around: Vec<u8>,
 }
 
-/// What is written, and what has to be known of the parts that are open.
+/// What is written of a text, and what has to be known of the parts that are open.
 #[derive(Drop)]
-struct Page<'a, 'b> {
-    known: Known<'a, 'b>,
+pub(crate) struct Page {
+    alloc: Global,
     out: Writer,
+    /// The line ending of what the text does not have.
+    ending: &'static str,
     /// Whether a line that the text does not have ends with a line feed.
     ends_by_feed: bool,
     /// Where the piece begins that was entered last.
@@ -62,80 +63,24 @@ struct Page<'a, 'b> {
     bodies: Vec<Vec<u8>>,
 }
 
-/// What is written of a text, and what is kept from one part of it to the next.
-#[derive(Drop)]
-pub(crate) struct Kept {
-    out: Writer,
-    /// How many headings have begun.
-    headings: usize,
-    table: Table,
-    /// How many bytes of definitions may be written.
-    left: usize,
-}
-
 /// For how many bytes a page has room at once: as many as the text has, and some for tags.
 fn room_for(bytes: &[u8]) -> usize {
     bytes.len().saturating_add(bytes.len() / 4)
 }
 
-impl Kept {
-    /// Nothing is written.
-    pub(crate) fn new(alloc: Global, bytes: &[u8]) -> Kept {
-        Kept {
-            out: Writer::with_room(alloc, room_for(bytes)),
-            headings: 0,
-            table: Table::new(Vec::new(alloc), most_repeated(bytes)),
-            left: most_repeated(bytes),
-        }
-    }
-
-    /// What is written. An `Err` says that memory ran out before all of it was.
-    pub(crate) fn html(self) -> Result<Vec<u8>, Message> {
-        let (html, is_cut) = self.out.finish();
-        if is_cut { Err(Message) } else { Ok(html) }
-    }
+/// The events of a list from the one on with which so many before `to` begin.
+fn ahead_of(list: &[Event], to: usize, many: usize) -> &[Event] {
+    list.get(to.saturating_sub(many)..).unwrap_or(&[])
 }
 
-/// Writes the events that are known, which are all that are in some blocks, after what is written.
-pub(crate) fn write<'a, 'b>(known: Known<'a, 'b>, kept: Kept) -> Kept {
-    let mut page = Page::new(known, kept);
-    let mut left = known.events;
-    while let [event, rest @ ..] = left {
-        let ahead = left;
-        left = rest;
-        match (sort_of(event.name), event.kind) {
-            (Sort::Quiet, _) => {}
-            (Sort::Piece, _) => {
-                if let [exit, after @ ..] = rest {
-                    let (exit, after) = page.text_to(event, exit, after);
-                    page.write_piece(event, exit.point);
-                    left = after;
-                }
-            }
-            (Sort::Block, Kind::Enter) => page.enter_block(event.name, ahead),
-            (Sort::Block, Kind::Exit) => page.exit_block(event.name),
-            (Sort::Phrase, Kind::Enter) => page.enter_phrase(event, ahead),
-            (Sort::Phrase, Kind::Exit) => page.exit_phrase(event),
-        }
-    }
-    page.write_notes();
-    page.keep()
-}
-
-impl<'a, 'b> Page<'a, 'b> {
-    /// A page on which nothing of these events is written.
-    fn new(known: Known<'a, 'b>, kept: Kept) -> Page<'a, 'b> {
-        let alloc = known.alloc;
-        let Kept {
-            out,
-            headings,
-            table,
-            left,
-        } = kept;
+impl Page {
+    /// A page of a text on which nothing is written.
+    pub(crate) fn new(alloc: Global, bytes: &[u8], ending: &'static str) -> Page {
         Page {
-            known,
-            out,
-            ends_by_feed: known.ending == "\n",
+            alloc,
+            out: Writer::with_room(alloc, room_for(bytes)),
+            ending,
+            ends_by_feed: ending == "\n",
             start: Point {
                 line: 1,
                 column: 1,
@@ -144,9 +89,9 @@ impl<'a, 'b> Page<'a, 'b> {
             },
             shown: Shown::Nothing,
             heading: "h1",
-            headings,
-            table,
-            left,
+            headings: 0,
+            table: Table::new(Vec::new(alloc), most_repeated(bytes)),
+            left: most_repeated(bytes),
             lists: Lists::new(alloc),
             media: MediaWalk::new(alloc),
             inside: Inside::new(alloc),
@@ -155,42 +100,65 @@ impl<'a, 'b> Page<'a, 'b> {
         }
     }
 
-    /// What is kept of it.
-    fn keep(self) -> Kept {
-        let Page {
-            out,
-            headings,
-            table,
-            left,
-            inside,
-            ..
-        } = self;
-        let mut out = out;
-        out.refuse(inside.is_refused());
-        Kept {
-            out,
-            headings,
-            table,
-            left,
+    /// Writes those of the events from one index to another, after what is written.
+    pub(crate) fn write(&mut self, known: &Known, from: usize, to: usize) {
+        let mut left = known.events.get(from..to).unwrap_or(&[]);
+        while let [event, rest @ ..] = left {
+            let many = left.len();
+            left = rest;
+            match (sort_of(event.name), event.kind) {
+                (Sort::Quiet, _) => {}
+                (Sort::Mark, _) => {
+                    if let [_, after @ ..] = rest {
+                        left = after;
+                    }
+                }
+                (Sort::Piece, _) => {
+                    if let [exit, after @ ..] = rest {
+                        let (exit, after) = self.text_to(event, exit, after);
+                        self.write_piece(known, event, exit.point);
+                        left = after;
+                    }
+                }
+                (Sort::Block, Kind::Enter) => {
+                    self.enter_block(known, event.name, ahead_of(known.events, to, many));
+                }
+                (Sort::Block, Kind::Exit) => self.exit_block(event.name),
+                (Sort::Phrase, Kind::Enter) => {
+                    self.enter_phrase(known, event, ahead_of(known.events, to, many));
+                }
+                (Sort::Phrase, Kind::Exit) => self.exit_phrase(known, event),
+            }
+        }
+    }
+
+    /// What is written. An `Err` says that memory ran out before all of it was.
+    pub(crate) fn html(self) -> Result<Vec<u8>, Message> {
+        let is_refused = self.inside.is_refused();
+        let (html, is_cut) = self.out.finish();
+        if is_cut || is_refused {
+            Err(Message)
+        } else {
+            Ok(html)
         }
     }
 
     /// Begins what an inline layer has found in a text, with which these events begin.
-    fn enter_phrase(&mut self, event: &Event, ahead: &[Event]) {
+    fn enter_phrase(&mut self, known: &Known, event: &Event, ahead: &[Event]) {
         self.start = event.point;
-        let target = if is_media(event.name) {
-            self.media_target(ahead)
-        } else {
-            None
-        };
         let around = self.around();
-        self.inside
-            .enter(&self.known, &mut self.out, event, target, around);
+        if is_media(event.name) {
+            let target = self.media_target(known, ahead);
+            self.inside
+                .enter_media(known, &mut self.out, event.name, target, around);
+        } else {
+            self.inside.enter(&mut self.out, event, around);
+        }
     }
 
     /// Where the link or image leads that begins with these events.
-    fn media_target(&mut self, ahead: &[Event]) -> Option<Target> {
-        match self.media.enter(&self.known, ahead, &mut self.left) {
+    fn media_target(&mut self, known: &Known, ahead: &[Event]) -> Option<Target> {
+        match self.media.enter(known, ahead, &mut self.left) {
             Ok(target) => target,
             Err(Message) => {
                 self.out.refuse(true);
@@ -200,24 +168,24 @@ impl<'a, 'b> Page<'a, 'b> {
     }
 
     /// Ends it.
-    fn exit_phrase(&mut self, event: &Event) {
+    fn exit_phrase(&mut self, known: &Known, event: &Event) {
         if is_media(event.name) {
             self.media.exit();
         }
-        let piece = self.bytes_to(event.point);
+        let (from, to) = self.places_to(event.point);
+        let piece = Piece { from, to };
         let around = self.around();
-        self.inside
-            .exit(&self.known, &mut self.out, event, piece, around);
+        self.inside.exit(known, &mut self.out, event, piece, around);
     }
 
     /// Where a text ends that begins with a piece, and what is after it: lines of text that are beside one another are
     /// written at once.
-    fn text_to(
+    fn text_to<'e>(
         &self,
         enter: &Event,
-        exit: &'a Event,
-        following: &'a [Event],
-    ) -> (&'a Event, &'a [Event])
+        exit: &'e Event,
+        following: &'e [Event],
+    ) -> (&'e Event, &'e [Event])
         ensures { length result.1.now ≤ length following.now }
     {
         if enter.name != Name::Data || !self.inside.is_plain() {
@@ -236,24 +204,24 @@ impl<'a, 'b> Page<'a, 'b> {
     }
 
     /// Writes the piece that begins with this event and ends at a point.
-    fn write_piece(&mut self, enter: &Event, end: Point) {
+    fn write_piece(&mut self, known: &Known, enter: &Event, end: Point) {
         self.start = enter.point;
         match enter.name {
-            Name::CodeFlowChunk | Name::MathFlowChunk => self.push_line(end),
-            Name::HtmlFlowData => self.push_html(end),
-            Name::LineEnding => self.end_line(end),
+            Name::CodeFlowChunk | Name::MathFlowChunk => self.push_line(known, end),
+            Name::HtmlFlowData => self.push_html(known, end),
+            Name::LineEnding => self.end_line(known, end),
             _ => {
                 let (from, to) = self.places_to(end);
                 let around = self.around();
                 if self.inside.is_shown(around) {
-                    self.out.push_escaped_within(self.known.bytes, from, to);
+                    self.out.push_escaped_within(known.bytes, from, to);
                 }
             }
         }
     }
 
     /// Begins a block or a part of one, with which these events begin.
-    fn enter_block(&mut self, name: Name, ahead: &[Event]) {
+    fn enter_block(&mut self, known: &Known, name: Name, ahead: &[Event]) {
         match name {
             Name::Paragraph => {
                 self.shown = Shown::Text;
@@ -261,8 +229,8 @@ impl<'a, 'b> Page<'a, 'b> {
                     self.push_on_line("<p>");
                 }
             }
-            Name::HeadingAtx => self.begin_heading(atx_heading(self.known.bytes, ahead)),
-            Name::HeadingSetext => self.begin_heading(setext_heading(self.known.bytes, ahead)),
+            Name::HeadingAtx => self.begin_heading(known, atx_heading(known.bytes, ahead)),
+            Name::HeadingSetext => self.begin_heading(known, setext_heading(known.bytes, ahead)),
             Name::HeadingAtxText | Name::HeadingSetextText => self.shown = Shown::Text,
             Name::ThematicBreak => {
                 self.begin_line();
@@ -277,7 +245,7 @@ impl<'a, 'b> Page<'a, 'b> {
             }
             Name::BlockQuote => {
                 self.begin_line();
-                let kind = alert_at(self.known.bytes, ahead);
+                let kind = alert_at(known.bytes, ahead);
                 self.begin_quote(kind);
             }
             Name::ListUnordered => {
@@ -288,7 +256,7 @@ impl<'a, 'b> Page<'a, 'b> {
             Name::ListOrdered => {
                 self.push_on_line("<ol");
                 self.lists.begin_list(&mut self.out, ahead);
-                self.end_list_tag(ahead);
+                self.end_list_tag(known, ahead);
             }
             Name::ListItem => self.push_on_line("<li>"),
             Name::GfmFootnoteDefinition => self.begin_note(),
@@ -369,7 +337,7 @@ impl<'a, 'b> Page<'a, 'b> {
     /// Ends code, math or HTML. The ending of the last line is outside of the block.
     fn exit_literal(&mut self, name: Name) {
         if self.shown == Shown::Line {
-            self.out.push(self.known.ending);
+            self.out.push(self.ending);
         }
         self.shown = Shown::Nothing;
         if name != Name::HtmlFlow {
@@ -385,31 +353,34 @@ impl<'a, 'b> Page<'a, 'b> {
     }
 
     /// Writes a text that ends with a line feed, by the line ending of what the text does not have.
+    #[inline(always)]
     fn push_ended(&mut self, text: &str) {
         if self.ends_by_feed {
             self.out.push(text);
         } else {
             self.out.push(text.strip_suffix('\n').unwrap_or(text));
-            self.out.push(self.known.ending);
+            self.out.push(self.ending);
         }
     }
 
     /// Writes a text on a new line.
+    #[inline(always)]
     fn push_on_line(&mut self, text: &str) {
         self.begin_line();
         self.out.push(text);
     }
 
     /// Goes to a new line of the page, where the last one is not empty.
+    #[inline(always)]
     fn begin_line(&mut self) {
         if !self.out.is_line_start() {
-            self.out.push(self.known.ending);
+            self.out.push(self.ending);
         }
     }
 
     /// Ends the tag of an ordered list.
-    fn end_list_tag(&mut self, ahead: &[Event]) {
-        let start = list_start(self.known.bytes, ahead);
+    fn end_list_tag(&mut self, known: &Known, ahead: &[Event]) {
+        let start = list_start(known.bytes, ahead);
         if start != 1 {
             self.out.push(" start=\"");
             self.out.push_number(start);
@@ -441,7 +412,7 @@ impl<'a, 'b> Page<'a, 'b> {
         let around = self.out.take();
         let opened = self.open.push(OpenNote { place, around });
         self.out.refuse(opened.is_err());
-        let kept = self.bodies.push(Vec::new(self.known.alloc));
+        let kept = self.bodies.push(Vec::new(self.alloc));
         self.out.refuse(kept.is_err());
     }
 
@@ -455,19 +426,19 @@ impl<'a, 'b> Page<'a, 'b> {
         }
     }
 
-    fn begin_heading(&mut self, tag: &'static str) {
+    fn begin_heading(&mut self, known: &Known, tag: &'static str) {
         self.heading = tag;
         self.push_on_line("<");
         self.out.push(tag);
-        self.push_heading_id();
+        self.push_heading_id(known);
         self.out.push(">");
     }
 
     /// Writes the `id` of the heading that begins, if it has one.
-    fn push_heading_id(&mut self) {
+    fn push_heading_id(&mut self, known: &Known) {
         let place = self.headings;
         self.headings = place.saturating_add(1);
-        if let Some(id) = self.known.ids.get(place) {
+        if let Some(id) = known.whole.ids.get(place) {
             if !id.is_empty() {
                 self.out.push(" id=\"");
                 self.out.push_escaped(id.as_bytes());
@@ -510,25 +481,25 @@ impl<'a, 'b> Page<'a, 'b> {
             Name::GfmTableHead => self.push_ended("</thead>\n"),
             Name::GfmTableBody => self.push_ended("</tbody>\n"),
             Name::GfmTableRow => {
-                self.table.fill_row(&mut self.out, self.known.ending);
+                self.table.fill_row(&mut self.out, self.ending);
                 self.push_ended("</tr>\n");
             }
-            Name::GfmTableCell => self.table.end_cell(&mut self.out, self.known.ending),
+            Name::GfmTableCell => self.table.end_cell(&mut self.out, self.ending),
             Name::GfmTableCellText => self.shown = Shown::Nothing,
             _ => {}
         }
     }
 
     /// The piece that ends here.
-    fn piece(&self, end: Point) -> Slice<'a> {
+    fn piece<'a>(&self, known: &Known<'a, '_>, end: Point) -> Slice<'a> {
         let start = self.start;
-        Slice::from_position(self.known.bytes, Position { start, end })
+        Slice::from_position(known.bytes, Position { start, end })
     }
 
     /// Its bytes, without a tab of which a container has taken columns.
-    fn bytes_to(&self, end: Point) -> &'a [u8] {
+    fn bytes_to<'a>(&self, known: &Known<'a, '_>, end: Point) -> &'a [u8] {
         let (from, to) = self.places_to(end);
-        between(self.known.bytes, from, to)
+        between(known.bytes, from, to)
     }
 
     /// The same as indices: of its first byte, and of the one after it.
@@ -542,69 +513,69 @@ impl<'a, 'b> Page<'a, 'b> {
         (from, end.index)
     }
 
-    /// Writes what a container has left of a tab before a line, as spaces.
-    fn push_spaces(&mut self, count: usize) {
-        for _ in 0..count {
+    /// Writes what a container has left of a tab before a line, as spaces, and says where the bytes of the line are.
+    fn begin_piece(&mut self, known: &Known, end: Point) -> (usize, usize) {
+        let start = self.start;
+        for _ in 0..self.piece(known, end).before {
             self.out.push(" ");
         }
+        self.places_to(end)
     }
 
     /// Writes a line of code or math.
-    fn push_line(&mut self, end: Point) {
-        let piece = self.piece(end);
-        self.push_spaces(piece.before);
-        self.out.push_escaped(piece.bytes);
+    fn push_line(&mut self, known: &Known, end: Point) {
+        let (from, to) = self.begin_piece(known, end);
+        self.out.push_escaped_within(known.bytes, from, to);
     }
 
     /// Writes a line of HTML.
-    fn push_html(&mut self, end: Point) {
-        let piece = self.piece(end);
-        self.push_spaces(piece.before);
-        if self.known.options.allow_dangerous_html {
-            self.out.push_shown(piece.bytes);
+    fn push_html(&mut self, known: &Known, end: Point) {
+        let (from, to) = self.begin_piece(known, end);
+        if known.whole.options.allow_dangerous_html {
+            self.out.push_shown(between(known.bytes, from, to));
         } else {
-            self.out.push_escaped(piece.bytes);
+            self.out.push_escaped_within(known.bytes, from, to);
         }
     }
 
     /// Goes to the next line of what is shown. After the ending that the text ends with no line begins.
-    fn end_line(&mut self, end: Point) {
+    fn end_line(&mut self, known: &Known, end: Point) {
         match self.shown {
             Shown::Nothing => {}
             Shown::Text => {
-                let ending = self.bytes_to(end);
+                let ending = self.bytes_to(known, end);
                 let around = self.around();
-                self.inside.end_line(&mut self.out, ending, around);
+                self.inside.end_line(known, &mut self.out, ending, around);
             }
             Shown::Line | Shown::Lines => {
                 if self.shown == Shown::Line {
-                    let ending = self.bytes_to(end);
+                    let ending = self.bytes_to(known, end);
                     self.out.push_bytes(ending);
                 }
-                let is_last = end.index >= self.known.bytes.len();
+                let is_last = end.index >= known.bytes.len();
                 self.shown = if is_last { Shown::Lines } else { Shown::Line };
             }
         }
     }
 
     /// Writes the section of the footnotes that are shown.
-    fn write_notes(&mut self) {
-        let notes = self.known.notes;
+    pub(crate) fn write_notes(&mut self, known: &Known) {
+        let notes = &known.whole.notes;
         if notes.shown.is_empty() {
             return;
         }
         self.begin_line();
-        begin_section(&self.known, &mut self.out);
+        begin_section(known, &mut self.out);
         for note in &notes.shown {
             let body = self.take_body(*note);
-            push_note(&self.known, &mut self.out, *note, &body);
+            push_note(known, &mut self.out, *note, &body);
         }
-        end_section(&self.known, &mut self.out);
+        end_section(known, &mut self.out);
     }
 
     /// What is written of a footnote.
     fn take_body(&mut self, note: usize) -> Vec<u8> {
-        let empty = Vec::new(self.known.alloc);
+        let empty = Vec::new(self.alloc);
         match self.bodies.get_mut(note) {
             Some(body) => mem::replace(body, empty),
             None => empty,

@@ -1,7 +1,8 @@
-// What is listed of the events before the page is written: where the labels and strings of links are, and which
-// footnotes are called.
+// What is listed of events: where the labels and strings of links are, where definitions lead, and which footnotes are
+// called.
 //
-// Where a link leads is after its text, and a definition or a footnote may be anywhere.
+// Where a link leads is after its text, and a definition or a footnote may be anywhere. So a page lists the events of a
+// link where it begins, and those of definitions before it is written.
 
 use crate::memory::push;
 use md_engine::event::{Event, Kind, Name};

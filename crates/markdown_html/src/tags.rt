@@ -19,8 +19,10 @@ pub(crate) enum Shown {
 /// What a page has to do at the events of a name.
 #[derive(Clone, Copy)]
 pub(crate) enum Sort {
-    /// Nothing: a marker, a prefix, whitespace, or what is not shown.
+    /// Nothing: a prefix, or what is not shown.
     Quiet,
+    /// Nothing: a marker or whitespace, whose exit is after its enter.
+    Mark,
     /// A piece of text, of code, of HTML or an ending: it is written where it ends.
     Piece,
     /// A block, or a part of one.
@@ -55,16 +57,24 @@ pub(crate) fn sort_of(name: Name) -> Sort {
         Name::CharacterEscapeValue | Name::CharacterReference => Sort::Phrase,
         Name::HardBreakEscape | Name::HardBreakTrailing => Sort::Phrase,
         Name::GfmTaskListItemCheck | Name::GfmTaskListItemValueChecked => Sort::Phrase,
+        Name::SpaceOrTab | Name::BlankLineEnding | Name::BlockQuoteMarker => Sort::Mark,
+        Name::ListItemValue | Name::ListItemMarker => Sort::Mark,
+        Name::HeadingAtxSequence | Name::CodeFencedFenceSequence => Sort::Mark,
+        Name::LabelMarker | Name::LabelImageMarker | Name::ReferenceMarker => Sort::Mark,
+        Name::ResourceMarker | Name::EmphasisSequence | Name::StrongSequence => Sort::Mark,
+        Name::CodeTextSequence | Name::AutolinkMarker | Name::GfmTableCellDivider => Sort::Mark,
         _ => Sort::Quiet,
     }
 }
 
 /// Whether events of this name are of a link, an image or a call.
+#[inline(always)]
 pub(crate) fn is_media(name: Name) -> bool {
     matches!(name, Name::Link | Name::Image | Name::GfmFootnoteCall)
 }
 
 /// Whether a survey lists events of this name, or what is in them.
+#[inline(always)]
 pub(crate) fn is_surveyed(name: Name) -> bool {
     match name {
         Name::Link | Name::Image | Name::GfmFootnoteCall => true,

@@ -25,9 +25,9 @@ fn definition(known: &Known, media: &Media) -> Result<Option<Target>, Message> {
     } else {
         media.reference
     };
-    let form = label_form(known.alloc, known.bytes, label.events(known.events))?;
+    let form = label_form(known.whole.alloc, known.bytes, label.events(known.events))?;
     match known.labels.definition(&form) {
-        Some(place) => Ok(known.definitions.get(place).copied()),
+        Some(place) => Ok(known.whole.definitions.get(place).copied()),
         None => Ok(None),
     }
 }

@@ -91,7 +91,7 @@ pub fn without_padding(code: &[u8]) -> &[u8] {
 }
 
 /// What is written in place of a byte of a text. A zero character is U+FFFD.
-fn escaped(byte: u8) -> Option<&'static str> {
+pub(crate) fn escaped(byte: u8) -> Option<&'static str> {
     match byte {
         b'&' => Some("&amp;"),
         b'<' => Some("&lt;"),
@@ -102,58 +102,29 @@ fn escaped(byte: u8) -> Option<&'static str> {
     }
 }
 
-/// Which of 16 bytes are not written as they are: a bit for each. Of fewer bytes all.
-#[inline(always)]
-fn replaced(bytes: &[u8]) -> u64 {
-    if bytes.len() < 16 {
-        return u64::MAX;
-    }
-    let lanes = u8x16::from_slice(bytes);
-    let replaced = lanes.simd_eq(u8x16::splat(b'&'))
-        | lanes.simd_eq(u8x16::splat(b'<'))
-        | lanes.simd_eq(u8x16::splat(b'>'))
-        | lanes.simd_eq(u8x16::splat(b'"'))
-        | lanes.simd_eq(u8x16::splat(0));
-    replaced.to_bitmask()
+/// Whether each byte is written as it is.
+pub(crate) fn is_plain(bytes: &[u8]) -> bool {
+    bytes.iter().all(|byte| escaped(*byte).is_none())
 }
 
-/// Whether each of 16 bytes is written as it is; false of fewer.
+/// Which of 16 bytes are not written as they are: a bit for each.
 #[inline(always)]
-fn are_plain(bytes: &[u8]) -> bool {
-    replaced(bytes) == 0
+fn replaced(lanes: u8x16) -> u64 {
+    // `"` and `&`, and `<` and `>`, have one bit that is not the same.
+    let quotes = (lanes | u8x16::splat(4)).simd_eq(u8x16::splat(b'&'));
+    let brackets = (lanes | u8x16::splat(2)).simd_eq(u8x16::splat(b'>'));
+    (quotes | brackets | lanes.simd_eq(u8x16::splat(0))).to_bitmask()
 }
 
-/// Whether each byte of a text from one index to another is written as it is, if these are at most 16 and 16 are looked
-/// at at once; else false. Most pieces of a text are as short.
+/// How many of 16 bytes in front are written as they are, of so many at most.
 #[inline(always)]
-pub(crate) fn is_plain_within(text: &[u8], from: usize, to: usize) -> bool {
-    let len = to.saturating_sub(from);
-    if len > 16 {
-        return false;
-    }
-    let ahead = text.get(from..).unwrap_or(&[]);
-    replaced(ahead) & (1u64 << len).saturating_sub(1) == 0
-}
-
-/// Whether each byte is written as it is: 16 are looked at at once, and of the last ones as many as there are.
-fn is_plain(bytes: &[u8]) -> bool {
-    if bytes.len() < 16 {
-        return bytes.iter().all(|byte| escaped(*byte).is_none());
-    }
-    for chunk in bytes.chunks_exact(16) {
-        if !are_plain(chunk) {
-            return false;
-        }
-    }
-    let last = bytes.len().saturating_sub(16);
-    are_plain(bytes.get(last..).unwrap_or(&[]))
+pub(crate) fn plain_len(lanes: u8x16, most: usize) -> usize {
+    let plain = (replaced(lanes) | (1u64 << most.min(16))).trailing_zeros();
+    usize::try_from(plain).unwrap_or(0)
 }
 
 /// Appends a part of a text so that a browser shows it as it is, also in an attribute.
 pub fn push_escaped<T: Append>(to: &mut T, bytes: &[u8]) -> Result<(), AllocError> {
-    if is_plain(bytes) {
-        return to.append(bytes);
-    }
     let mut from = 0;
     for (at, byte) in bytes.iter().enumerate() {
         if let Some(text) = escaped(*byte) {

@@ -3,8 +3,8 @@
 //
 //     parse, parse_with, inlines, parts, outline, outline_part
 //                                   it prints the outline of the text; `inlines` is `parse_with` with that layer
-//     into                          the same of a text that is handed over in parts, with that layer
-//     html, html_of                 it prints the HTML of the text; `html_of` reads it in parts
+//     into                          the same of events that are handed over, with that layer
+//     html, html_of                 it prints the HTML of the text; `html_of` writes it as events are handed over
 //     quote, item, footnote         it prints the text in that container
 //     run                           it prints what `printing::run_blocks::run` prints of its standard input
 //     states                        the states that take no memory, of those that can be called on their own;
@@ -192,7 +192,7 @@ fn parsed_by_parts(alloc: Global, text: &str, options: &ParseOptions) -> Result<
     printed(alloc, &events, state)
 }
 
-/// All events of a text that is handed over in parts.
+/// All events of a text that are handed over.
 #[derive(Drop)]
 struct Taken {
     events: Vec<Event>,
@@ -205,16 +205,21 @@ impl Sink for Taken {
         true
     }
 
-    fn take(&mut self, _ahead: &Ahead, events: Vec<Event>) -> Result<Vec<Event>, Message> {
-        let mut events = events;
-        if self.events.append(&mut events).is_err() {
+    fn take(
+        &mut self,
+        _ahead: &Ahead,
+        list: &[Event],
+        from: usize,
+        to: usize,
+    ) -> Result<(), Message> {
+        if self.events.extend_from_slice(&list[from..to]).is_err() {
             return Err(Message);
         }
-        Ok(events)
+        Ok(())
     }
 }
 
-/// The same of a text that is handed over in parts, each of which ends as soon as it may.
+/// The same of a text whose events are handed over, and whose blocks are read in parts that end as soon as they may.
 fn parsed_into(alloc: Global, text: &str, options: &ParseOptions) -> Result<String, Message>
     requires size { IsSmall text.now }
     requires built { IsWithoutMdx options.now }
@@ -276,7 +281,8 @@ fn written(alloc: Global, text: &str, options: &ParseOptions) -> Result<String, 
     page
 }
 
-/// The HTML of a text that is read in parts, each of which ends as soon as it may.
+/// The HTML of a text that is written as its events are handed over, and whose blocks are read in parts that end as soon
+/// as they may.
 fn written_by_parts(alloc: Global, text: &str, options: &ParseOptions) -> Result<String, Message>
     requires size { IsSmall text.now }
     requires built { IsWithoutMdx options.now }

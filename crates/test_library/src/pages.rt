@@ -35,7 +35,8 @@ fn page(alloc: Global, text: &str, set: Set, asked: &HtmlOptions) -> Result<Stri
     html(alloc, &events, &state, asked)
 }
 
-/// The HTML of a text that is read in parts, each of which ends as soon as it may.
+/// The HTML of a text that is written as its events are handed over, and whose blocks are read in parts that end as soon
+/// as they may.
 fn page_by_parts(
     alloc: Global,
     text: &str,

@@ -29,7 +29,7 @@ is-ahead g c =
     let bytes : List ℕ = c.as_bytes-bytes.result.now in
     let text : bytes ≡ c.args.value.now = c.as_bytes-bytes.ensures.value in
     let small : length c.args.value.now < 2 ^ 61 = omega (arith, c.requires.size) in
-    let all : AreAllBlocks c.args.options.now bytes c.in_ok-blocks.blocks = c.in_ok-blocks.ensures in
+    let all : AreAllBlocks c.args.options.now bytes c.in_ok-blocks.blocks = c.in_ok-blocks.ensures.read in
     record {
       built = c.requires.built;
       utf8 = subst IsUtf8 (sym text) c.utf8.value;
@@ -40,9 +40,9 @@ is-ahead g c =
       footnotes = ap (λ (l : Labels). l.footnotes) all.labels_are;
     }
 
-pub hand_over-requires : goal.hand_over-requires
-hand_over-requires g c =
-    let before : After-state-1 g = (goal.at.hand_over-requires g c).After-state-1 in
+pub hand_over-requires-clause-are : goal.hand_over-requires-clause-are
+hand_over-requires-clause-are g c =
+    let before : After-state-1 g = (goal.at.hand_over-requires-clause-are g c).After-state-1 in
     subst (AreBlocks (document_of (state_of g before))) (sym c.deref.ensures.value)
     (blocks-known (state_of g before) c.in_ok-blocks.blocks.events.items (is-ahead g before))
 

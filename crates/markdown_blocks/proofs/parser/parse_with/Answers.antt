@@ -28,7 +28,7 @@ is-ahead g c =
     let bytes : List ℕ = c.as_bytes-bytes.result.now in
     let text : bytes ≡ c.args.value.now = c.as_bytes-bytes.ensures.value in
     let small : length c.args.value.now < 2 ^ 61 = omega (arith, c.requires.size) in
-    let all : AreAllBlocks c.args.options.now bytes c.in_ok-blocks.blocks = c.in_ok-blocks.ensures in
+    let all : AreAllBlocks c.args.options.now bytes c.in_ok-blocks.blocks = c.in_ok-blocks.ensures.read in
     record {
       built = c.requires.built;
       utf8 = subst IsUtf8 (sym text) c.utf8.value;
@@ -44,7 +44,7 @@ read_text_parts-requires-clause-are g c =
     blocks-known (state_of g c) c.in_ok-blocks.blocks.events.items (is-ahead g c)
 
 pub read_text_parts-requires-clause-placed : goal.read_text_parts-requires-clause-placed
-read_text_parts-requires-clause-placed g c = c.in_ok-blocks.ensures.placed
+read_text_parts-requires-clause-placed g c = c.in_ok-blocks.ensures.read.placed
 
 pub returns : goal.returns
 returns g c =

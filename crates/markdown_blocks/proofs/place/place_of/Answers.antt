@@ -17,8 +17,8 @@ returns-in-Some c =
     let here : IsPartAt blocks part c.in-Some.place =
     subst (λ (l : List Event). IsPartAt l part c.in-Some.place) c.deref.ensures.value c.in-Some.ensures in
     let are : AreBlocks document blocks =
-    blocks-again document c.requires.blocks blocks built c.requires.are c.in_ok-blocks.ensures.are
-    c.in_ok-blocks.ensures.placed in
+    blocks-again document c.requires.blocks blocks built c.requires.are c.in_ok-blocks.ensures.read.are
+    c.in_ok-blocks.ensures.read.placed in
     let at : IsTextPartAt document part c.in-Some.place = record {
       blocks = blocks;
       are = are;

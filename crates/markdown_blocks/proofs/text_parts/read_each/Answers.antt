@@ -1,18 +1,18 @@
-use Rattle.std.proofs.Common.{◌≡◌, ◌<◌, ℕ, ◌++◌, ◌⊎◌, ◌∙◌, ◌∷◌, List, [], append-nil, arith, drop, get_or}
+use Rattle.std.proofs.Common.{◌≡◌, ◌<◌, ◌-◌, ℕ, ◌++◌, ◌⊎◌, ◌∙◌, ◌∷◌, List, [], ap, arith, drop, get_or}
 use Rattle.std.proofs.Common.{inl, inr, length, refl, subst, sym, take}
 use Rattle.std.specs.Prelude.{None, Some}
 use Rattle.std.proofs.lemmas.List.{drop_all, drop_more, take_rest}
 use Rattle.md_engine.specs.declared.event.Kind.TheVariants.{Enter}
 use Rattle.md_engine.specs.declared.event.Name.TheVariants.{Frontmatter}
 use Rattle.md_engine.specs.declared.event.Event.{Event}
-use Rattle.md_events.specs.Substituted.{Readings, Substituted, wanted}
+use Rattle.md_events.specs.Substituted.{Readings, wanted}
 use Rattle.md_events.specs.Events.Inline.{together}
 use Rattle.md_events.specs.TextPart.{Document, document_of, text_readings, wants_text}
 use Rattle.md_events.proofs.SubstitutedLemmas.{Leads, leads-all, leads-first, leads-part}
 use Rattle.md_events.specs.declared.inline.PartPlace.{PartPlace}
 use Rattle.markdown_blocks.specs.declared.part_places.Places.{Places}
 use Rattle.markdown_blocks.specs.PartPlaces.{places_from}
-use Rattle.markdown_blocks.proofs.Handed.{handed-events, handed-first, handed-part, none-left}
+use Rattle.markdown_blocks.proofs.Handed.{none-left, taken-more, together-more}
 use Rattle.markdown_blocks.proofs.PartWalk.{AreNext, ahead-first, ahead-next, ahead-part, ahead-stays, leads-stay}
 use Rattle.markdown_blocks.proofs.text_parts.read_each.Goals as goal
 use Rattle.markdown_blocks.proofs.text_parts.read_each.Goals.{in_default-text_content-via-in-Some+else-left-gt1}
@@ -37,7 +37,7 @@ loop-left-init g c =
     let found = c.nothing-found in
     record {
       given = [];
-      handed = handed-first g.S.Sink.takes c.args.sink.now c.in_ok-list.list.items [] (sym c.in_ok-list.ensures);
+      taken = refl;
       substituted =
           leads-first wants_text (text_readings (g.I.Inline.reads c.args.parts.now.inline.now document))
           c.args.events.now c.args.events.now found.result.events.items [] found.result.placed found.result.chunks refl
@@ -63,28 +63,39 @@ loop-left-preserved-then-left-gt1 g c =
     let inv = c.loop-left.invariant in
     let rest : List Event = c.loop-left.left.now in
     let read = c.in_ok-or_read-in-Some.ensures in
-    let place = c.in_ok-place-in-Some.ensures in
+    let place = c.place-to.ensures in
     let some : Some c.in-Some.content ≡ wanted wants_text (get_or rest 0 unset) =
     c.in-Some.ensures in
     let two : 1 < length rest = omega (arith, c.if-left-gt1.true) in
-    let here : List Event = take _ (drop c.or_read.new.found.placed c.or_read.new.found.events.items) in
+    let now : List Event = drop c.or_read.new.found.placed c.or_read.new.found.events.items in
+    let here : List Event =
+    take (c.place-to.result - c.or_read.new.found.placed)
+    (drop c.or_read.new.found.placed c.deref.result.now) in
+    let is : here ≡ take _ now =
+    ap (λ (l : List Event). take (c.place-to.result - c.or_read.new.found.placed) (drop c.or_read.new.found.placed l))
+    (c.deref.ensures.value ∙ place.events)
+    ∙ place.placed in
     record {
-      given = inv.given ++ here;
-      handed =
-          handed-events g.S.Sink.takes c.args.sink.now c.end_part.new.sink c.end_part.new.list.items
-          c.place.new.all.items inv.given here place.placed
-          (c.in_ok-end_part.ensures.handed c.args.sink.now inv.given inv.handed);
+      given = inv.given ++ here ∷ [];
+      taken =
+          taken-more g.S.Sink.takes c.args.sink.now c.loop-left.sink c.take.new.self inv.given here inv.taken
+          c.in_ok-take-in-Some.ensures;
       substituted =
           subst
           (λ (l : List Event).
-          Leads wants_text reads c.args.events.now (drop c.place.new.self.placed c.place.new.self.events.items)
-          c.place.new.self.chunks l (inv.given ++ here)) (sym (take_rest rest 2))
-          (leads-part wants_text reads c.args.events.now rest _ _ _ inv.given (inv.given ++ here) _ _ _
-          unset c.in-Some.content two some read.begun place.chunks refl place.left inv.substituted);
+          Leads wants_text reads c.args.events.now (drop c.place-to.new.self.placed c.place-to.new.self.events.items)
+          c.place-to.new.self.chunks l (together (inv.given ++ here ∷ []))) (sym (take_rest rest 2))
+          (leads-part wants_text reads c.args.events.now rest
+          (drop c.loop-left.found.placed c.loop-left.found.events.items) now
+          (drop c.place-to.new.self.placed c.place-to.new.self.events.items) (together inv.given)
+          (together (inv.given ++ here ∷ [])) c.loop-left.found.chunks c.or_read.new.found.chunks
+          c.place-to.new.self.chunks unset c.in-Some.content two some read.begun place.chunks
+          (together-more inv.given here ∙ ap (λ (l : List Event). together inv.given ++ l) is) place.left
+          inv.substituted);
       ahead =
           subst
           (λ (l : List Event).
-          AreNext document (left_places c.or_read.new.places) c.place.new.self.chunks l)
+          AreNext document (left_places c.or_read.new.places) c.place-to.new.self.chunks l)
           (sym (take_rest rest 2))
           (ahead-next document (left_places c.loop-left.places) c.loop-left.found.chunks _ _ _ _ rest _ _
           unset c.in-Some.content two some read.begun place.chunks read.places inv.ahead);
@@ -107,18 +118,23 @@ loop-left-preserved g c =
       | in_default-text_content-via-in_default-text_content w ↦
           inl (sym c.text_content.ensures ∙ w.in_default-text_content.is)
     ] in
+    let here : List Event = take (many - 0) rest in
+    let all : many - 0 ≡ many = omega arith in
+    let is : here ≡ take many rest = ap (λ (n : ℕ). take n rest) all in
     record {
-      given = inv.given ++ take many rest;
-      handed =
-          handed-events g.S.Sink.takes c.args.sink.now c.end_part.new.sink c.end_part.new.list.items
-          c.append.new.events.items inv.given (take many rest)
-          (rw c.split_at.ensures.front at c.in_ok-append-in_default-text_content.ensures)
-          (c.in_ok-end_part.ensures.handed c.args.sink.now inv.given inv.handed);
+      given = inv.given ++ here ∷ [];
+      taken =
+          taken-more g.S.Sink.takes c.args.sink.now c.loop-left.sink c.take-in_default-text_content.new.self inv.given
+          here inv.taken c.in_ok-take-in_default-text_content.ensures;
       substituted =
-          subst (λ (l : List Event). Leads wants_text reads c.args.events.now left chunks l (inv.given ++ take many rest))
+          subst
+          (λ (l : List Event).
+          Leads wants_text reads c.args.events.now left chunks l (together (inv.given ++ here ∷ [])))
           (sym c.split_at.ensures.back)
-          (leads-stay wants_text reads c.args.events.now left inv.given rest chunks many (get_or rest 0 unset) first stay
-          c.staying-many.ensures.some c.staying-many.ensures.stay inv.substituted);
+          (subst (Leads wants_text reads c.args.events.now left chunks (drop many rest))
+          (sym (together-more inv.given here ∙ ap (λ (l : List Event). together inv.given ++ l) is))
+          (leads-stay wants_text reads c.args.events.now left (together inv.given) rest chunks many (get_or rest 0 unset)
+          first stay c.staying-many.ensures.some c.staying-many.ensures.stay inv.substituted));
       ahead =
           subst (AreNext document (left_places c.loop-left.places) chunks) (sym c.split_at.ensures.back)
           (ahead-stays document (left_places c.loop-left.places) chunks many rest (get_or rest 0 unset)
@@ -130,11 +146,8 @@ returns g c =
     let document : Document = document_of c.args.parts.now.ahead.now.state.now in
     let reads : Readings = text_readings (g.I.Inline.reads c.args.parts.now.inline.now document) in
     let inv = c.loop-left.invariant in
-    let none : c.loop-left.left.now ≡ [] = none-left c.loop-left.left.now (omega (arith, c.in_default.len_below)) in
-    let all = handed-part g.S.Sink.takes c.args.sink.now c.loop-left.sink c.take.new.self c.loop-left.list.items []
-    inv.given c.in_ok-_spare.ensures refl inv.handed in (
-      all.parts,
-      all.taken,
-      subst (Substituted wants_text reads [] 0 c.args.events.now) (all.are ∙ append-nil (together all.parts))
-          (leads-all wants_text reads c.args.events.now _ _ _ _ none inv.substituted),
+    let none : c.loop-left.left.now ≡ [] = none-left c.loop-left.left.now (omega (arith, c.in_default.len_below)) in (
+      inv.given,
+      inv.taken,
+      leads-all wants_text reads c.args.events.now _ _ _ _ none inv.substituted,
     )

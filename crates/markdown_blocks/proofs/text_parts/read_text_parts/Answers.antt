@@ -19,5 +19,5 @@ returns g c =
     subst
     (Substituted wants_text
     (text_readings (g.I.Inline.reads c.args.inline.now (document_of c.args.state.now))) [] 0 c.args.events.items)
-    (sym (all ∙ ap (λ (l : List Event). l ++ together handed.0) c.new.ensures.items))
+    (sym (all ∙ ap (λ (l : List Event). l ++ together handed.0) c.in_ok-with_room.ensures))
     (rw c.deref.ensures.value at handed.2)
