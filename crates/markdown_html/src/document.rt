@@ -91,17 +91,15 @@ pub fn html_bytes<'a>(
         notes,
         forms,
     };
-    let known = Known {
-        bytes: state.bytes,
-        events,
-        ahead: events,
+    let ahead = Ahead {
+        state,
         labels: &labels,
-        whole: &whole,
+        definitions: events,
     };
-    let mut page = Page::new(alloc, state.bytes, whole.ending);
-    page.write(&known, 0, events.len());
-    page.write_notes(&known);
-    page.html()
+    let page = Page::new(alloc, state.bytes, whole.ending);
+    let mut begun = Begun { page, whole };
+    begun.write(&ahead, events, 0, events.len());
+    begun.html(&ahead, events)
 }
 
 /// A page on which something is written.
@@ -141,7 +139,7 @@ impl<'a> Pages<'a> {
         })
     }
 
-    /// Takes the first events, or events of a text with footnotes.
+    /// Keeps events of a text with footnotes; of another begins to write.
     fn take_first(
         &mut self,
         ahead: &Ahead,
@@ -154,16 +152,13 @@ impl<'a> Pages<'a> {
         if !ahead.state.gfm_footnote_definitions.is_empty() {
             return append(&mut self.all, &list[from..to]);
         }
-        let mut begun = self.begin(ahead)?;
-        begun.write(ahead, list, from, to);
-        self.begun = Some(begun);
+        self.begun = Some(self.begin(ahead)?);
         Ok(())
     }
 }
 
 impl Begun<'_> {
     /// Writes the events of a list from one index to another.
-    #[inline(always)]
     fn write(&mut self, ahead: &Ahead, list: &[Event], from: usize, to: usize) {
         let known = Known {
             bytes: ahead.state.bytes,
@@ -173,6 +168,20 @@ impl Begun<'_> {
             whole: &self.whole,
         };
         self.page.write(&known, from, to);
+    }
+
+    /// All that is written, with footnotes at its end.
+    fn html(self, ahead: &Ahead, list: &[Event]) -> Result<Vec<u8>, Message> {
+        let Begun { mut page, whole } = self;
+        let known = Known {
+            bytes: ahead.state.bytes,
+            events: list,
+            ahead: ahead.definitions,
+            labels: ahead.labels,
+            whole: &whole,
+        };
+        page.write_notes(&known);
+        page.html()
     }
 }
 
@@ -190,13 +199,13 @@ impl Sink for Pages<'_> {
         from: usize,
         to: usize,
     ) -> Result<(), Message> {
-        match &mut self.begun {
-            Some(begun) => {
-                begun.write(ahead, list, from, to);
-                Ok(())
-            }
-            None => self.take_first(ahead, list, from, to),
+        if self.begun.is_none() {
+            self.take_first(ahead, list, from, to)?;
         }
+        if let Some(begun) = &mut self.begun {
+            begun.write(ahead, list, from, to);
+        }
+        Ok(())
     }
 }
 

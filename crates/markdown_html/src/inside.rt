@@ -205,7 +205,7 @@ impl Inside {
             if self.images > 0 {
                 out.push(" ");
             } else {
-                out.push_bytes(ending);
+                out.push_ending(ending);
             }
         }
     }
@@ -340,6 +340,7 @@ impl Inside {
         }
     }
 
+    #[inline(always)]
     fn end_code(&mut self, known: &Known, out: &mut Writer, tag: &str, around: Around) {
         self.is_code = false;
         let is_tagged = self.is_tagged(around);

@@ -5,7 +5,7 @@
 
 use crate::known::Known;
 use crate::survey::{SurveyWalk, Target};
-use crate::tags::is_surveyed;
+use crate::tags::is_of_media;
 use crate::targets::targets;
 use md_engine::event::Event;
 use md_engine::message::Message;
@@ -60,7 +60,7 @@ impl MediaWalk {
         let first = known.events.len().saturating_sub(ahead.len());
         self.walk.clear();
         for (at, event) in ahead.iter().enumerate() {
-            if is_surveyed(event.name) {
+            if is_of_media(event.name) {
                 self.walk.read(event, first.saturating_add(at))?;
                 if self.walk.is_outside() {
                     break;

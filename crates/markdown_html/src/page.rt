@@ -43,7 +43,7 @@ pub(crate) struct Page {
     ending: &'static str,
     /// Whether a line that the text does not have ends with a line feed.
     ends_by_feed: bool,
-    /// Where the piece begins that was entered last.
+    /// Where the part of a text begins that was entered last.
     start: Point,
     /// What becomes of the texts and line endings that come next.
     shown: Shown,
@@ -68,9 +68,22 @@ fn room_for(bytes: &[u8]) -> usize {
     bytes.len().saturating_add(bytes.len() / 4)
 }
 
-/// The events of a list from the one on with which so many before `to` begin.
-fn ahead_of(list: &[Event], to: usize, many: usize) -> &[Event] {
-    list.get(to.saturating_sub(many)..).unwrap_or(&[])
+/// The events from one of them on.
+#[inline(always)]
+fn ahead_of<'a>(known: &Known<'a, '_>, at: usize) -> &'a [Event] {
+    known.events.get(at..).unwrap_or(&[])
+}
+
+/// The bytes of a piece, without a tab of which a container has taken columns, as indices: of its first byte, and of the
+/// one after it.
+#[inline(always)]
+fn places(start: Point, end: Point) -> (usize, usize) {
+    let from = if start.vs > 0 {
+        start.index.saturating_add(1)
+    } else {
+        start.index
+    };
+    (from, end.index)
 }
 
 impl Page {
@@ -100,34 +113,40 @@ impl Page {
         }
     }
 
-    /// Writes those of the events from one index to another, after what is written.
+    /// Writes those of the events from one index to another, after what is written. It is called in one place, where it is
+    /// in line.
+    #[inline(always)]
     pub(crate) fn write(&mut self, known: &Known, from: usize, to: usize) {
-        let mut left = known.events.get(from..to).unwrap_or(&[]);
-        while let [event, rest @ ..] = left {
-            let many = left.len();
-            left = rest;
+        let list = known.events.get(..to).unwrap_or(&[]);
+        let mut at = from;
+        while at < list.len() {
+            let event = &list[at];
             match (sort_of(event.name), event.kind) {
-                (Sort::Quiet, _) => {}
-                (Sort::Mark, _) => {
-                    if let [_, after @ ..] = rest {
-                        left = after;
-                    }
-                }
+                (Sort::Quiet, _) => at += 1,
+                (Sort::Mark, _) => at += 2,
                 (Sort::Piece, _) => {
-                    if let [exit, after @ ..] = rest {
-                        let (exit, after) = self.text_to(event, exit, after);
-                        self.write_piece(known, event, exit.point);
-                        left = after;
+                    let exit = self.text_to(event, list, at + 1);
+                    if let Some(end) = list.get(exit) {
+                        self.write_piece(known, event, end.point);
                     }
+                    at = exit + 1;
                 }
                 (Sort::Block, Kind::Enter) => {
-                    self.enter_block(known, event.name, ahead_of(known.events, to, many));
+                    self.enter_block(known, event.name, at);
+                    at += 1;
                 }
-                (Sort::Block, Kind::Exit) => self.exit_block(event.name),
+                (Sort::Block, Kind::Exit) => {
+                    self.exit_block(event.name);
+                    at += 1;
+                }
                 (Sort::Phrase, Kind::Enter) => {
-                    self.enter_phrase(known, event, ahead_of(known.events, to, many));
+                    self.enter_phrase(known, event, at);
+                    at += 1;
                 }
-                (Sort::Phrase, Kind::Exit) => self.exit_phrase(known, event),
+                (Sort::Phrase, Kind::Exit) => {
+                    self.exit_phrase(known, event);
+                    at += 1;
+                }
             }
         }
     }
@@ -143,12 +162,12 @@ impl Page {
         }
     }
 
-    /// Begins what an inline layer has found in a text, with which these events begin.
-    fn enter_phrase(&mut self, known: &Known, event: &Event, ahead: &[Event]) {
+    /// Begins what an inline layer has found in a text, with the event at this index.
+    fn enter_phrase(&mut self, known: &Known, event: &Event, at: usize) {
         self.start = event.point;
         let around = self.around();
         if is_media(event.name) {
-            let target = self.media_target(known, ahead);
+            let target = self.media_target(known, ahead_of(known, at));
             self.inside
                 .enter_media(known, &mut self.out, event.name, target, around);
         } else {
@@ -172,46 +191,41 @@ impl Page {
         if is_media(event.name) {
             self.media.exit();
         }
-        let (from, to) = self.places_to(event.point);
+        let (from, to) = places(self.start, event.point);
         let piece = Piece { from, to };
         let around = self.around();
         self.inside.exit(known, &mut self.out, event, piece, around);
     }
 
-    /// Where a text ends that begins with a piece, and what is after it: lines of text that are beside one another are
-    /// written at once.
-    fn text_to<'e>(
-        &self,
-        enter: &Event,
-        exit: &'e Event,
-        following: &'e [Event],
-    ) -> (&'e Event, &'e [Event])
-        ensures { length result.1.now ≤ length following.now }
+    /// The index of the event with which a text ends that begins with a piece, of which this is the exit: lines of text that
+    /// are beside one another are written at once.
+    #[inline(always)]
+    fn text_to(&self, enter: &Event, list: &[Event], exit: usize) -> usize
+        requires { exit ≤ length list.now }
+        ensures { (exit ≤ result) × (result ≤ length list.now) }
     {
         if enter.name != Name::Data || !self.inside.is_plain() {
-            return (exit, following);
+            return exit;
         }
         let mut end = exit;
-        let mut left = following;
-        while let [ending, _, text, last, rest @ ..] = left {
-            if ending.name != Name::LineEnding || text.name != Name::Data {
+        while list.len() - end > 4 {
+            if list[end + 1].name != Name::LineEnding || list[end + 3].name != Name::Data {
                 break;
             }
-            end = last;
-            left = rest;
+            end += 4;
         }
-        (end, left)
+        end
     }
 
     /// Writes the piece that begins with this event and ends at a point.
     fn write_piece(&mut self, known: &Known, enter: &Event, end: Point) {
-        self.start = enter.point;
+        let start = enter.point;
         match enter.name {
-            Name::CodeFlowChunk | Name::MathFlowChunk => self.push_line(known, end),
-            Name::HtmlFlowData => self.push_html(known, end),
-            Name::LineEnding => self.end_line(known, end),
+            Name::CodeFlowChunk | Name::MathFlowChunk => self.push_line(known, start, end),
+            Name::HtmlFlowData => self.push_html(known, start, end),
+            Name::LineEnding => self.end_line(known, start, end),
             _ => {
-                let (from, to) = self.places_to(end);
+                let (from, to) = places(start, end);
                 let around = self.around();
                 if self.inside.is_shown(around) {
                     self.out.push_escaped_within(known.bytes, from, to);
@@ -220,8 +234,8 @@ impl Page {
         }
     }
 
-    /// Begins a block or a part of one, with which these events begin.
-    fn enter_block(&mut self, known: &Known, name: Name, ahead: &[Event]) {
+    /// Begins a block or a part of one, with the event at this index.
+    fn enter_block(&mut self, known: &Known, name: Name, at: usize) {
         match name {
             Name::Paragraph => {
                 self.shown = Shown::Text;
@@ -229,8 +243,14 @@ impl Page {
                     self.push_on_line("<p>");
                 }
             }
-            Name::HeadingAtx => self.begin_heading(known, atx_heading(known.bytes, ahead)),
-            Name::HeadingSetext => self.begin_heading(known, setext_heading(known.bytes, ahead)),
+            Name::HeadingAtx => self.begin_heading(
+                known,
+                atx_heading(known.bytes, ahead_of(known, at)),
+            ),
+            Name::HeadingSetext => self.begin_heading(
+                known,
+                setext_heading(known.bytes, ahead_of(known, at)),
+            ),
             Name::HeadingAtxText | Name::HeadingSetextText => self.shown = Shown::Text,
             Name::ThematicBreak => {
                 self.begin_line();
@@ -245,22 +265,22 @@ impl Page {
             }
             Name::BlockQuote => {
                 self.begin_line();
-                let kind = alert_at(known.bytes, ahead);
+                let kind = alert_at(known.bytes, ahead_of(known, at));
                 self.begin_quote(kind);
             }
             Name::ListUnordered => {
                 self.begin_line();
                 self.push_ended("<ul>\n");
-                self.lists.begin_list(&mut self.out, ahead);
+                self.lists.begin_list(&mut self.out, ahead_of(known, at));
             }
             Name::ListOrdered => {
                 self.push_on_line("<ol");
-                self.lists.begin_list(&mut self.out, ahead);
-                self.end_list_tag(known, ahead);
+                self.lists.begin_list(&mut self.out, ahead_of(known, at));
+                self.end_list_tag(known, ahead_of(known, at));
             }
             Name::ListItem => self.push_on_line("<li>"),
             Name::GfmFootnoteDefinition => self.begin_note(),
-            _ => self.enter_table(name, ahead),
+            _ => self.enter_table(known, name, at),
         }
     }
 
@@ -448,12 +468,12 @@ impl Page {
     }
 
     /// Begins a table or a part of one.
-    fn enter_table(&mut self, name: Name, ahead: &[Event]) {
+    fn enter_table(&mut self, known: &Known, name: Name, at: usize) {
         match name {
             Name::GfmTable => {
                 self.begin_line();
                 self.push_ended("<table>\n");
-                let read = read_columns(&mut self.table.columns, ahead);
+                let read = read_columns(&mut self.table.columns, ahead_of(known, at));
                 self.out.refuse(read.is_err());
             }
             Name::GfmTableHead => {
@@ -490,47 +510,26 @@ impl Page {
         }
     }
 
-    /// The piece that ends here.
-    fn piece<'a>(&self, known: &Known<'a, '_>, end: Point) -> Slice<'a> {
-        let start = self.start;
-        Slice::from_position(known.bytes, Position { start, end })
-    }
-
-    /// Its bytes, without a tab of which a container has taken columns.
-    fn bytes_to<'a>(&self, known: &Known<'a, '_>, end: Point) -> &'a [u8] {
-        let (from, to) = self.places_to(end);
-        between(known.bytes, from, to)
-    }
-
-    /// The same as indices: of its first byte, and of the one after it.
-    fn places_to(&self, end: Point) -> (usize, usize) {
-        let start = self.start;
-        let from = if start.vs > 0 {
-            start.index.saturating_add(1)
-        } else {
-            start.index
-        };
-        (from, end.index)
-    }
-
     /// Writes what a container has left of a tab before a line, as spaces, and says where the bytes of the line are.
-    fn begin_piece(&mut self, known: &Known, end: Point) -> (usize, usize) {
-        let start = self.start;
-        for _ in 0..self.piece(known, end).before {
-            self.out.push(" ");
+    fn begin_piece(&mut self, known: &Known, start: Point, end: Point) -> (usize, usize) {
+        if start.vs > 0 {
+            let piece = Slice::from_position(known.bytes, Position { start, end });
+            for _ in 0..piece.before {
+                self.out.push(" ");
+            }
         }
-        self.places_to(end)
+        places(start, end)
     }
 
     /// Writes a line of code or math.
-    fn push_line(&mut self, known: &Known, end: Point) {
-        let (from, to) = self.begin_piece(known, end);
+    fn push_line(&mut self, known: &Known, start: Point, end: Point) {
+        let (from, to) = self.begin_piece(known, start, end);
         self.out.push_escaped_within(known.bytes, from, to);
     }
 
     /// Writes a line of HTML.
-    fn push_html(&mut self, known: &Known, end: Point) {
-        let (from, to) = self.begin_piece(known, end);
+    fn push_html(&mut self, known: &Known, start: Point, end: Point) {
+        let (from, to) = self.begin_piece(known, start, end);
         if known.whole.options.allow_dangerous_html {
             self.out.push_shown(between(known.bytes, from, to));
         } else {
@@ -539,18 +538,19 @@ impl Page {
     }
 
     /// Goes to the next line of what is shown. After the ending that the text ends with no line begins.
-    fn end_line(&mut self, known: &Known, end: Point) {
+    fn end_line(&mut self, known: &Known, start: Point, end: Point) {
         match self.shown {
             Shown::Nothing => {}
             Shown::Text => {
-                let ending = self.bytes_to(known, end);
+                let (from, to) = places(start, end);
+                let ending = between(known.bytes, from, to);
                 let around = self.around();
                 self.inside.end_line(known, &mut self.out, ending, around);
             }
             Shown::Line | Shown::Lines => {
                 if self.shown == Shown::Line {
-                    let ending = self.bytes_to(known, end);
-                    self.out.push_bytes(ending);
+                    let (from, to) = places(start, end);
+                    self.out.push_ending(between(known.bytes, from, to));
                 }
                 let is_last = end.index >= known.bytes.len();
                 self.shown = if is_last { Shown::Lines } else { Shown::Line };

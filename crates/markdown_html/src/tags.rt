@@ -89,6 +89,17 @@ pub(crate) fn is_surveyed(name: Name) -> bool {
     }
 }
 
+/// Whether a survey of a link, an image or a call lists events of this name.
+#[inline(always)]
+pub(crate) fn is_of_media(name: Name) -> bool {
+    is_media(name)
+        || matches!(name, Name::LabelText)
+        || matches!(name, Name::Resource)
+        || matches!(name, Name::ResourceDestinationString)
+        || matches!(name, Name::ResourceTitleString)
+        || matches!(name, Name::ReferenceString)
+}
+
 // Names that are no neighbours are asked for apart: so a question is a test of a bit, where one match is a jump by a
 // table.
 

@@ -164,6 +164,15 @@ impl Writer {
         }
     }
 
+    /// Writes the ending of a line as it is. Most are one byte.
+    #[inline(always)]
+    pub(crate) fn push_ending(&mut self, ending: &[u8]) {
+        match ending {
+            b"\n" => self.push("\n"),
+            _ => self.push_bytes(ending),
+        }
+    }
+
     /// Writes a part of the text, so that a browser shows it as it is.
     pub(crate) fn push_escaped(&mut self, bytes: &[u8]) {
         if bytes.len() < 16 && texts::is_plain(bytes) {

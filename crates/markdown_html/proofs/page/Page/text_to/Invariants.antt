@@ -1,8 +1,11 @@
-use Rattle.std.proofs.Common.{◌≤◌, length}
+use Rattle.std.proofs.Common.{◌≤◌, ◌-◌, length}
 use Rattle.markdown_html.proofs.page.Page.text_to.Given as goal
 
-abbrev pub invariant-loop-left : goal.invariant-loop-left
-invariant-loop-left l = length l.left ≤ length l.following
+abbrev pub invariant-loop-end : goal.invariant-loop-end
+invariant-loop-end l = record {
+  after : l.fn.exit ≤ l.end;
+  within : l.end ≤ length l.fn.list;
+}
 
-abbrev pub decreases-loop-left : goal.decreases-loop-left
-decreases-loop-left l = length l.left
+abbrev pub decreases-loop-end : goal.decreases-loop-end
+decreases-loop-end l = length l.fn.list - l.end
