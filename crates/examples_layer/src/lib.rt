@@ -38,7 +38,7 @@ fn read_with(
     let text = part_text(alloc, kind, chunks, state)?;
     let tokens = tokens_of(alloc, kind, text.bytes(), labels)?;
     events.clear();
-    push_part(events, kind, chunks, state, &tokens)
+    push_part(events, kind, chunks, &text, state, &tokens)
 }
 
 /// Marks the shortcut references of a text whose labels the document defines, and reads all else as text.

@@ -79,7 +79,7 @@ fn read_as_at(
     let text = part_text(alloc, kind, chunks, state)?;
     let tokens = part_tokens(alloc, options, labels, kind, place, text.bytes())?;
     events.clear();
-    push_part(events, kind, chunks, state, &tokens)
+    push_part(events, kind, chunks, &text, state, &tokens)
 }
 
 /// Whether it matters where a part with this text is.

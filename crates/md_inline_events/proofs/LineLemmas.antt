@@ -36,3 +36,14 @@ line-counted text rest at e is =
     ap (λ (l : List ℕ). at + length (without_ending l))
     (is ∙ take_all (length text - at) (drop at text) (let size = length-drop at text in omega (arith, size)))
     ∙ line-after text at (omega (arith, e))
+
+take-taken : (n : ℕ) (text : List ℕ) → take (length (take n text)) text ≡ take n text
+take-taken zero text = refl
+take-taken (suc n) [] = refl
+take-taken (suc n) (b ∷ text) = ap (λ (l : List ℕ). b ∷ l) (take-taken n text)
+
+-- so many bytes are the line
+pub line-taken : (text line : List ℕ) (n : ℕ) → n ≡ length (without_ending text) → line ≡ take n text →
+    line ≡ without_ending text
+line-taken text line n size is =
+    is ∙ ap (λ (k : ℕ). take k text) size ∙ take-taken (prefix_len (λ b. not (is_ending b)) text) text

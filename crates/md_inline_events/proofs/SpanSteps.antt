@@ -1,8 +1,11 @@
 -- Bytes of text are passed at once: each is one column.
 use Rattle.std.proofs.Common.{◌≡◌, ℕ, zero, suc, ◌+◌, ◌-◌, ◌<◌, ◌≤◌, Bool, true, false, List, [], ◌∷◌, ◌++◌, length}
-use Rattle.std.proofs.Common.{drop}
+use Rattle.std.proofs.Common.{cond, nat_lt, drop, take}
 use Rattle.std.proofs.Common.{refl, ap, sym, ◌∙◌, arith}
 use Rattle.std.specs.Prelude.{◌==◌, ◌&&◌, slice_index}
+use Rattle.std.specs.List.{prefix_len}
+use Rattle.std.proofs.lemmas.Bool.Decides.{nat_tests}
+use Rattle.std.proofs.lemmas.List.{take-append-drop}
 use Rattle.std.proofs.lemmas.List.Folds.{list_all-append}
 use Rattle.md_engine.specs.Classes.{IsSpan, has}
 use Rattle.md_engine.specs.declared.class.Class.TheVariants.{Text}
@@ -65,6 +68,28 @@ pub even-parts : (line run following : List ℕ) → line ≡ run ++ following �
 even-parts line run following is even =
     both-parts (is_even run) (is_even following)
     (sym (list_all-append (has Text) run following) ∙ ap is_even (sym is) ∙ even)
+
+-- bytes greater than CR in front
+even-front : (text : List ℕ) (n : ℕ) → n ≤ prefix_len (nat_lt 13) text → is_even (take n text) ≡ true
+even-front text zero le = refl
+even-front [] (suc n) le = refl
+even-front (b ∷ text) (suc n) le = go (nat_lt 13 b) refl le (even-front text n)
+  where
+    go : (x : Bool) → nat_lt 13 b ≡ x → suc n ≤ cond x (1 + prefix_len (nat_lt 13) text) 0 →
+        (n ≤ prefix_len (nat_lt 13) text → is_even (take n text) ≡ true) → is_even (b ∷ take n text) ≡ true
+    go false e le more = absurd (omega (arith, le))
+    go true e le more =
+        let one : has Text b ≡ true = grind (arith, nat_tests) in
+        ap (λ (x : Bool). x && is_even (take n text)) one ∙ more (omega (arith, le))
+
+-- the text of a line, all bytes of which are greater than CR
+pub even-text : (text line rest side : List ℕ) (at size indent len : ℕ) → at ≡ prefix_len (nat_lt 13) text →
+    line ≡ take size text → size ≤ at → rest ≡ drop indent line → side ≡ take len rest → is_even side ≡ true
+even-text text line rest side at size indent len counted is within back front =
+    let all : is_even line ≡ true = ap is_even is ∙ even-front text size (omega (arith, within, counted)) in
+    let last : is_even rest ≡ true = ap is_even back
+    ∙ (even-parts line (take indent line) (drop indent line) (sym (take-append-drop indent line)) all).1 in
+    ap is_even front ∙ (even-parts rest (take len rest) (drop len rest) (sym (take-append-drop len rest)) last).0
 
 ahead-all : (line : List ℕ) (p : Point) → is_even line ≡ true → 1 ≤ p.column → p.vs ≡ 0 →
     past_text line p ≡ ahead (length line) p

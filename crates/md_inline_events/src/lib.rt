@@ -8,6 +8,7 @@
 
 mod cursor;
 mod events;
+mod sides;
 pub mod text;
 pub mod token;
 pub mod writer;

@@ -19,5 +19,5 @@ returns c =
     anywhere c.args.options.now (document_of c.args.state.now)
     (record { kind = c.args.kind; chunks = c.args.chunks.now }) Elsewhere c.requires
     (ap (λ (l : List ℕ). place_matters c.args.options.now c.args.kind l)
-    (sym (c.bytes.ensures ∙ c.in_ok-text.ensures))
+    (sym (c.bytes.ensures ∙ c.in_ok-text.ensures.bytes))
     ∙ sym c.place_matters.ensures ∙ c.if-place_matters.false)

@@ -20,5 +20,5 @@ returns c =
     (ap live c.deref.ensures.value
     ∙ part-tokens c.args.options.now (document_of c.args.state.now)
     (record { kind = c.args.part.kind; chunks = c.args.part.chunks.now }) c.args.part.place c.args.labels.now
-    c.bytes.result.now c.in_ok-tokens.tokens.items c.requires.labels (c.bytes.ensures ∙ c.in_ok-text.ensures)
+    c.bytes.result.now c.in_ok-tokens.tokens.items c.requires.labels (c.bytes.ensures ∙ c.in_ok-text.ensures.bytes)
     c.in_ok-tokens.ensures))

@@ -1,18 +1,25 @@
-use Rattle.std.proofs.Common.{◌≡◌, Bool, List, [], ◌++◌, subst}
+use Rattle.std.proofs.Common.{◌≡◌, Bool, List, [], ◌++◌, subst, sym}
 use Rattle.std.specs.Prelude.{OnOk}
 use Rattle.md_engine.specs.declared.event.Name.TheVariants as n
 use Rattle.md_events.specs.Events.Inline.{together}
 use Rattle.md_events.specs.TextPart.{document_of}
 use Rattle.md_inline_events.specs.Marks.{Mark}
 use Rattle.md_inline_events.specs.Cursor.{token_marks}
+use Rattle.md_inline_events.specs.SidesOf.{IsReadOf}
 use Rattle.md_inline_events.specs.Woven.{chunks_events, is_text}
 use Rattle.md_inline_events.proofs.StretchLemmas.{part-stretches}
 use Rattle.md_inline_events.proofs.TokenLemmas.{forest_marks}
 use Rattle.md_inline_events.proofs.writer.push_part.Goals as goal
 
-pub push_chunks-requires : goal.push_chunks-requires
-push_chunks-requires c =
-    part-stretches (document_of c.args.state.now) (record { kind = c.args.kind; chunks = c.args.chunks.now }) c.requires
+pub push_chunks-requires-clause-stretches : goal.push_chunks-requires-clause-stretches
+push_chunks-requires-clause-stretches c =
+    part-stretches (document_of c.args.state.now) (record { kind = c.args.kind; chunks = c.args.chunks.now })
+    c.requires.part
+
+pub push_chunks-requires-clause-text : goal.push_chunks-requires-clause-text
+push_chunks-requires-clause-text c =
+    subst (λ (b : Bool). IsReadOf c.args.state.now.bytes.now b c.args.chunks.now c.args.text.now)
+    (sym c.is_text.ensures) c.requires.text
 
 pub returns : goal.returns
 returns c forest h =
