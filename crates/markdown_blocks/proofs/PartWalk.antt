@@ -1,19 +1,24 @@
 -- A walk over the blocks of a document by which a layer reads its text parts: which part is next, and where it is.
-use Rattle.std.proofs.Common.{◌≡◌, ℕ, zero, suc, ◌+◌, ◌<◌, ◌≤◌, ◌⊎◌, inl, inr, Bool, true, false, List, [], ◌∷◌, ◌++◌, length}
+use Rattle.std.proofs.Common.{◌≡◌, ℕ, zero, suc, ◌+◌, ◌-◌, ◌<◌, ◌≤◌, ◌⊎◌, inl, inr, Bool, true, List, [], ◌∷◌, ◌++◌, length}
 use Rattle.std.proofs.Common.{append-nil, append_assoc, get_or, take, drop, refl, ap, sym, ◌∙◌, subst, arith}
 use Rattle.std.specs.Prelude.{Option, Some, None}
+use Rattle.std.specs.Option.{is_some}
 use Rattle.std.specs.List.{prefix_len}
+use Rattle.std.proofs.lemmas.Bool.{true≢false}
+use Rattle.std.proofs.lemmas.List.{drop-drop, drop-take, take-append-drop, take-take}
 use Rattle.md_engine.specs.declared.event.Content.{Content}
 use Rattle.md_engine.specs.declared.event.Event.{Event}
 use Rattle.md_events.specs.declared.inline.Chunk.{Chunk}
 use Rattle.md_events.specs.declared.inline.PartPlace.{PartPlace}
 use Rattle.md_events.specs.Events.Inline.{Part}
 use Rattle.md_events.specs.Events.Tiles.{parts}
-use Rattle.md_events.specs.Substituted.{Begun, Readings, chunk_of, chunks_after, chunks_from, stays, wanted}
+use Rattle.md_events.specs.Substituted.{Begun, Readings, chunk_of, chunks_after, chunks_from, share}
+use Rattle.md_events.specs.Substituted.{stays, wanted}
 use Rattle.md_events.specs.TextPart.{AreBlocks, Document, text_kind, wants_text}
 use Rattle.md_events.proofs.PartWalks.{Walk, Ends, Stays, Begins, IsContinued, unlinked-unwanted}
 use Rattle.md_events.proofs.PartWalks.{walk-blocks}
-use Rattle.md_events.proofs.SubstitutedLemmas.{Leads, leads-event}
+use Rattle.md_events.proofs.SubstitutedLemmas.{Leads, SubstitutedBy, leads-chunk, leads-event, two-left}
+use Rattle.markdown_blocks.specs.InPlace.{InPlace, is_chunk_next, InPlace.Nothing, InPlace.Placed}
 use Rattle.markdown_blocks.specs.PartPlaces.{IsNext, part_places, places_after}
 use Rattle.markdown_blocks.proofs.PlacedParts.{ArePlacedAt, following-parts, next-part, placed-parts}
 
@@ -132,17 +137,6 @@ leads-stay wants reads events left all rest chunks (suc n) e first stay some wit
     es : List Event
     es = drop 1 rest
 
--- a test of fewer events passes no more of them
-pub prefix-within : (p : Event → Bool) (n : ℕ) (es : List Event) → prefix_len p (take n es) ≤ prefix_len p es
-prefix-within p zero es = omega arith
-prefix-within p (suc n) [] = omega arith
-prefix-within p (suc n) (e ∷ es) = go (p e) refl (prefix-within p n es)
-  where
-    go : (x : Bool) → p e ≡ x → prefix_len p (take n es) ≤ prefix_len p es →
-        prefix_len p (take (suc n) (e ∷ es)) ≤ prefix_len p (e ∷ es)
-    go true passes less = rw passes (omega (arith, less))
-    go false fails less = rw fails (omega arith)
-
 -- a chunk, where none is left of a part that has begun, is the first of the next part
 pub ahead-part : (document : Document) (places : List PartPlace) (chunks : ℕ) (rest : List Event) (d : Event)
     (content : Content) → 1 < length rest → Some content ≡ wanted wants_text (get_or rest 0 d) →
@@ -172,23 +166,23 @@ ahead-part document places chunks rest d content two some ahead none =
         placed))
     go (IsContinued is walk) two some none placed = absurd (omega arith)
 
--- what is ahead once a chunk is read
-pub ahead-next : (document : Document) (places : List PartPlace) (chunks many chunks_left : ℕ)
-    (now_places : List PartPlace) (reads : List Event → Type 0) (rest left now : List Event) (d : Event) (content : Content) →
+-- A part has begun, unless chunks of another are left.
+
+-- what is ahead then
+pub ahead-begun : (document : Document) (places now_places : List PartPlace) (chunks many : ℕ)
+    (reads : List Event → Type 0) (rest left now : List Event) (d : Event) (content : Content) →
     1 < length rest → Some content ≡ wanted wants_text (get_or rest 0 d) →
-    Begun reads (length (chunks_from wants_text rest)) left chunks now many → chunks_left + 1 ≡ many →
+    Begun reads (length (chunks_from wants_text rest)) left chunks now many →
     now_places ≡ places_after chunks places → AreNext document places chunks rest →
-    AreNext document now_places chunks_left (drop 2 rest)
-ahead-next document places chunks many chunks_left now_places reads rest before now d content two some begun one took
-    ahead =
+    AreNext document now_places many rest
+ahead-begun document places now_places chunks many reads rest before now d content two some begun took ahead =
     go chunks took begun ahead.walk two some ahead.count ahead.placed
   where
     go : (chunks : ℕ) → now_places ≡ places_after chunks places → {left : List Chunk} {rest : List Event}
         {following : List Part} →
         Begun reads (length (chunks_from wants_text rest)) before chunks now many → Walk left rest following →
         1 < length rest → Some content ≡ wanted wants_text (get_or rest 0 d) → length left ≡ chunks →
-        ArePlacedAt document following places →
-        AreNext document now_places chunks_left (drop 2 rest)
+        ArePlacedAt document following places → AreNext document now_places many rest
     go chunks took begun Ends two some count placed = absurd (omega arith)
     go chunks took begun (Stays {e = e} unlinked outer walk) two some count placed =
         let no : wanted wants_text e ≡ None = unlinked-unwanted wants_text e unlinked in cc
@@ -198,10 +192,10 @@ ahead-next document places chunks many chunks_left now_places reads rest before 
         let all : many ≡ suc (length (chunks_after wants_text es)) = begun.1 in
         let long : length (chunks_after wants_text es) ≡ length left = ap length listed in
         record {
-          left = left;
+          left = chunk_of e f ∷ left;
           following = following;
-          walk = walk;
-          count = omega (arith, all, long, one);
+          walk = IsContinued is walk;
+          count = omega (arith, all, long);
           placed =
               subst (ArePlacedAt document following) (sym took)
               (following-parts document (record { kind = text_kind held; chunks = chunk_of e f ∷ left }) following
@@ -213,9 +207,155 @@ ahead-next document places chunks many chunks_left now_places reads rest before 
         (IsContinued {e = e} {f = f} {es = es} {left = left} {parts = following} is walk) two some count placed =
         let all : many ≡ suc more = begun.1 in
         record {
-          left = left;
+          left = chunk_of e f ∷ left;
           following = following;
-          walk = walk;
-          count = omega (arith, all, count, one);
+          walk = IsContinued is walk;
+          count = omega (arith, all, count);
           placed = subst (ArePlacedAt document following) (sym took) placed;
         }
+
+-- the same of the events that are given
+pub leads-begun : (wants : Content → Bool) (reads : Readings) (events rest left now all : List Event)
+    (chunks many : ℕ) (d : Event) (content : Content) →
+    1 < length rest → Some content ≡ wanted wants (get_or rest 0 d) →
+    Begun (reads content (chunks_from wants rest)) (length (chunks_from wants rest)) left chunks now many →
+    Leads wants reads events left chunks rest all → Leads wants reads events now many rest all
+leads-begun wants reads events [] left now all chunks many d held two some begun leads out s =
+    absurd (omega arith)
+leads-begun wants reads events (e ∷ []) left now all chunks many d held two some begun leads out s =
+    absurd (omega arith)
+leads-begun wants reads events (e ∷ f ∷ es) left now all chunks many d content two some begun leads out s =
+    leads out
+    (subst (SubstitutedBy wants reads left chunks e f es out) some
+    (go chunks many begun (subst (SubstitutedBy wants reads now many e f es out) (sym some) s)))
+  where
+    go : (chunks many : ℕ) →
+        Begun (reads content (chunks_from wants (e ∷ f ∷ es))) (length (chunks_from wants (e ∷ f ∷ es))) left chunks now
+        many →
+        SubstitutedBy wants reads now many e f es out (Some content) →
+        SubstitutedBy wants reads left chunks e f es out (Some content)
+    go zero many begun s =
+        let same : SubstitutedBy wants reads now (suc (length (chunks_after wants es))) e f es out (Some content) =
+        subst (λ (n : ℕ). SubstitutedBy wants reads now n e f es out (Some content)) begun.1 s in
+        (now, same.0, begun.0, same.1, same.2)
+    go (suc more) many begun s =
+        subst (λ (l : List Event). SubstitutedBy wants reads l (suc more) e f es out (Some content)) begun.0
+        (subst (λ (n : ℕ). SubstitutedBy wants reads now n e f es out (Some content)) begun.1 s)
+
+-- Chunks are in their places.
+
+-- a chunk is next
+pub first-begins : (events : List Event) (d : Event) → is_chunk_next events ≡ true →
+    is_some (wanted wants_text (get_or events 0 d)) ≡ true
+first-begins [] d begins = absurd (true≢false (sym begins))
+first-begins (e ∷ es) d begins = begins
+
+pub begins-first : (events : List Event) (d : Event) (content : Content) → 1 < length events →
+    Some content ≡ wanted wants_text (get_or events 0 d) → is_chunk_next events ≡ true
+begins-first [] d held two some = absurd (omega arith)
+begins-first (e ∷ es) d held two some = ap is_some (sym some)
+
+-- one more chunk
+pub place-more : (left rest out now given after ahead : List Event) (chunks many fewer : ℕ) (d : Event) →
+    1 < length ahead → is_some (wanted wants_text (get_or ahead 0 d)) ≡ true → fewer + 1 ≡ many →
+    InPlace left chunks rest out now many ahead →
+    given ≡ out ++ take (share (many - 1) now (get_or ahead 1 d).point.index) now →
+    after ≡ drop (share (many - 1) now (get_or ahead 1 d).point.index) now →
+    InPlace left chunks rest given after fewer (drop 2 ahead)
+place-more left rest out now given after ahead chunks many fewer d two begins one is given_is after_is =
+    subst (λ (l : List Event). InPlace left chunks rest l after fewer es)
+    (sym (given_is ∙ ap (λ (n : ℕ). out ++ take (share n now f.point.index) now) less))
+    (subst (λ (l : List Event). InPlace left chunks rest (out ++ take (share fewer now f.point.index) now) l fewer es)
+    (sym (after_is ∙ ap (λ (n : ℕ). drop (share n now f.point.index) now) less)) (go (wanted wants_text e) refl begins))
+  where
+    e : Event
+    e = get_or ahead 0 d
+
+    f : Event
+    f = get_or ahead 1 d
+
+    es : List Event
+    es = drop 2 ahead
+
+    less : many - 1 ≡ fewer
+    less = omega (arith, one)
+
+    here : InPlace left chunks rest out now (suc fewer) (e ∷ f ∷ es)
+    here =
+        let more : many ≡ suc fewer = omega (arith, one) in
+        subst (λ (n : ℕ). InPlace left chunks rest out now n (e ∷ f ∷ es)) more
+        (subst (λ (l : List Event). InPlace left chunks rest out now many l) (two-left ahead 0 d two) is)
+
+    go : (o : Option Content) → wanted wants_text e ≡ o → is_some o ≡ true →
+        InPlace left chunks rest (out ++ take (share fewer now f.point.index) now)
+        (drop (share fewer now f.point.index) now) fewer es
+    go None none begins = absurd (true≢false (sym begins))
+    go (Some held) some begins = Placed here some
+
+-- the events in their places, where more are
+pub taken-up : (items given : List Event) (first placed next : ℕ) → first ≤ placed → placed ≤ next →
+    take (next - placed) (drop placed items) ≡ given →
+    take (next - first) (drop first items) ≡ take (placed - first) (drop first items) ++ given
+taken-up items given first placed next one two is =
+    let n : ℕ = placed - first in
+    let sum : next - first ≡ n + (next - placed) = omega (arith, one, two) in
+    let at : first + n ≡ placed = omega (arith, one) in
+    ap (λ (k : ℕ). take k (drop first items)) sum
+    ∙ sym (take-add n (next - placed) (drop first items))
+    ∙ ap (λ (l : List Event). take n (drop first items) ++ take (next - placed) l)
+    (drop-drop n first items ∙ ap (λ (k : ℕ). drop k items) at)
+    ∙ ap (λ (l : List Event). take n (drop first items) ++ l) is
+  where
+    take-add : (n m : ℕ) (l : List Event) → take n l ++ take m (drop n l) ≡ take (n + m) l
+    take-add n m l =
+        let within : n ≤ n + m = omega arith in
+        ap (λ (f : List Event). f ++ take m (drop n l)) (sym (take-take n (n + m) l within))
+        ∙ ap (λ (f : List Event). take n (take (n + m) l) ++ f) (sym (drop-take n m l))
+        ∙ take-append-drop n (take (n + m) l)
+
+-- what is ahead after them
+ahead-chunk : (document : Document) (places : List PartPlace) (more : ℕ) (rest : List Event) (d : Event)
+    (content : Content) → 1 < length rest → wanted wants_text (get_or rest 0 d) ≡ Some content →
+    AreNext document places (suc more) rest → AreNext document places more (drop 2 rest)
+ahead-chunk document places more rest d content two some ahead = go ahead.walk two some ahead.count ahead.placed
+  where
+    go : {left : List Chunk} {rest : List Event} {following : List Part} → Walk left rest following →
+        1 < length rest → wanted wants_text (get_or rest 0 d) ≡ Some content → length left ≡ suc more →
+        ArePlacedAt document following places → AreNext document places more (drop 2 rest)
+    go Ends two some count placed = absurd (omega arith)
+    go (Stays {e = e} unlinked outer walk) two some count placed =
+        let no : wanted wants_text e ≡ None = unlinked-unwanted wants_text e unlinked in cc
+    go (Begins is listed walk) two some count placed = absurd (omega (arith, count))
+    go (IsContinued {left = left} {parts = following} is walk) two some count placed = record {
+      left = left;
+      following = following;
+      walk = walk;
+      count = omega (arith, count);
+      placed = placed;
+    }
+
+pub ahead-placed : (document : Document) (places : List PartPlace) (left rest out now ahead : List Event)
+    (chunks more : ℕ) → InPlace left chunks rest out now more ahead →
+    AreNext document places chunks rest → AreNext document places more ahead
+ahead-placed document places left rest out now ahead chunks more is next = go is
+  where
+    go : {out now ahead : List Event} {more : ℕ} → InPlace left chunks rest out now more ahead →
+        AreNext document places more ahead
+    go Nothing = next
+    go (Placed {more = more} {e = e} {f = f} {es = es} {content = held} placed some) =
+        ahead-chunk document places more (e ∷ f ∷ es) e held (omega arith) some (go placed)
+
+-- the same of the events that are given
+pub leads-placed : (reads : Readings) (events all left rest out now ahead : List Event) (chunks more : ℕ) →
+    InPlace left chunks rest out now more ahead →
+    Leads wants_text reads events left chunks rest all → Leads wants_text reads events now more ahead (all ++ out)
+leads-placed reads events all left rest out now ahead chunks more is leads = go is
+  where
+    go : {out now ahead : List Event} {more : ℕ} → InPlace left chunks rest out now more ahead →
+        Leads wants_text reads events now more ahead (all ++ out)
+    go Nothing = subst (Leads wants_text reads events left chunks rest) (sym (append-nil all)) leads
+    go (Placed {out = out} {now = now} {more = more} {e = e} {f = f} {es = es} {content = held} placed some) =
+        subst (Leads wants_text reads events (drop (share more now f.point.index) now) more es)
+        (append_assoc all out (take (share more now f.point.index) now))
+        (leads-chunk wants_text reads events now (all ++ out) (suc more) e f es held some (go placed) now more
+        (refl, refl))

@@ -11,5 +11,6 @@ pub mod TextMet
 pub mod PartRead
 pub mod PartsLeft
 pub mod PartPlaces
+pub mod InPlace
 pub mod Taken
 pub mod Definitions

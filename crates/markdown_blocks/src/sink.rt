@@ -33,8 +33,8 @@ pub trait Sink {
     }
 
     /// Takes the next events: those of a list from one index to another. They are of the blocks, and then those of the
-    /// blocks further on follow in the list, with their text parts not read; or they are what the layer found in a piece of
-    /// a text part, and then what it found in the whole part is in the list.
+    /// blocks further on follow in the list, with their text parts not read; or they are what the layer found in lines of a
+    /// text part, and then what it found in the whole part is in the list.
     ///
     /// After an `Err` nothing is handed over any more.
     fn take(&mut self, ahead: &Ahead, list: &[Event], from: usize, to: usize) -> Result<(), Message>

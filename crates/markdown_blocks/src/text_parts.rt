@@ -3,7 +3,7 @@
 // A layer that finds nothing but lines is asked for no part: the parser reads the lines itself. Any other layer is asked
 // for each part with its place, and with the labels of the document made ready to be looked up.
 
-ghost use Rattle.std.specs.Prelude.{◌≡◌, ◌+◌, ◌-◌, ◌<◌, ◌≤◌, IfOk, IfSome, List, None, OnOk, [], drop, length, suc, take};
+ghost use Rattle.std.specs.Prelude.{◌≡◌, ◌+◌, ◌-◌, ◌<◌, ◌≤◌, IfOk, IfSome, List, None, OnOk, [], drop, length, suc, take, true};
 ghost use Rattle.std.specs.List.{prefix_len};
 ghost use Rattle.md_engine.specs.declared.event.Event.{Event};
 ghost use Rattle.md_events.specs.Events.Inline.{together};
@@ -13,6 +13,7 @@ ghost use Rattle.md_events.specs.TextPart.{AreBlocks, AreLabelsOf, IsTextPart, d
 ghost use Rattle.md_events.specs.TextPart.{text_kind, text_readings, wants_text};
 ghost use Rattle.markdown_blocks.specs.Taken.{AreTaken};
 ghost use Rattle.markdown_blocks.specs.Definitions.{marked};
+ghost use Rattle.markdown_blocks.specs.InPlace.{InPlace, IsFurther};
 ghost use Rattle.markdown_blocks.specs.PartPlaces.{IsNext, places_after, places_from};
 
 use crate::definitions::read_definitions;
@@ -181,15 +182,15 @@ impl Answer {
         }
     }
 
-    /// Has in its place what belongs to the next chunk, which ends at the byte `end`. Returns how many events are then.
+    /// Has in its place what belongs to the next chunk, which ends at the byte `end`.
     #[inline(always)]
-    fn place(&mut self, end: usize) -> usize
+    fn place(&mut self, end: usize)
         requires { 0 < self.old.chunks }
         ensures chunks { self.new.chunks + 1 ≡ self.old.chunks }
         ensures events { self.new.events.items ≡ self.old.events.items }
-        ensures within { (self.old.placed ≤ result) × (result ≤ length self.new.events.items) }
+        ensures more { self.old.placed ≤ self.new.placed }
         ensures placed { let left = drop self.old.placed self.old.events.items in
-            take (result - self.old.placed) left ≡ take (share (self.old.chunks - 1) left end) left }
+            take (self.new.placed - self.old.placed) left ≡ take (share (self.old.chunks - 1) left end) left }
         ensures left { let left = drop self.old.placed self.old.events.items in
             drop self.new.placed self.new.events.items ≡ drop (share (self.old.chunks - 1) left end) left }
     {
@@ -201,7 +202,6 @@ impl Answer {
         };
         self.placed += many;
         self.chunks -= 1;
-        self.placed
     }
 }
 
@@ -248,6 +248,35 @@ fn or_read<I: Inline>(
     Ok(())
 }
 
+/// Whether these events begin with a chunk of a part that has begun, of which so many chunks are left.
+fn is_further(chunks: usize, events: &[Event]) -> bool
+    ensures { result ≡ true → IsFurther chunks events.now }
+{
+    chunks > 0 && events.len() > 1 && text_content(&events[0]).is_some()
+}
+
+/// Has in its place what belongs to the chunks with which these events begin, one after the other, of a part that has
+/// begun. Returns the events after them.
+#[inline(always)]
+fn place_chunks<'a>(found: &mut Answer, events: &'a [Event]) -> &'a [Event]
+    requires { IsFurther found.old.chunks events.now }
+    ensures events { found.new.events.items ≡ found.old.events.items }
+    ensures more { found.old.placed ≤ found.new.placed }
+    ensures fewer { length result.now < length events.now }
+    ensures placed { let left = drop found.old.placed found.old.events.items in
+        InPlace left found.old.chunks events.now (take (found.new.placed - found.old.placed) left)
+        (drop found.new.placed found.new.events.items) found.new.chunks result.now }
+{
+    let mut left = events;
+    let mut is_next = true;
+    while is_next {
+        found.place(left[1].point.index);
+        left = &left[2..];
+        is_next = is_further(found.chunks, left);
+    }
+    left
+}
+
 /// How many of these events stay. The first is known to.
 fn staying(events: &[Event]) -> usize
     requires { 0 < length events.now }
@@ -289,9 +318,8 @@ fn read_each<I: Inline, S: Sink>(
                     left,
                 )?;
                 let from = found.placed;
-                let to = found.place(left[1].point.index);
-                sink.take(parts.ahead, &found.events, from, to)?;
-                left = &left[2..];
+                left = place_chunks(&mut found, left);
+                sink.take(parts.ahead, &found.events, from, found.placed)?;
             }
             _ => {
                 let many = staying(left);

@@ -192,6 +192,7 @@ impl Sink for Pages<'_> {
         true
     }
 
+    #[inline(always)]
     fn take(
         &mut self,
         ahead: &Ahead,

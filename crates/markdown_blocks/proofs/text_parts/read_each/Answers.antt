@@ -1,19 +1,20 @@
 use Rattle.std.proofs.Common.{◌≡◌, ◌<◌, ◌-◌, ℕ, ◌++◌, ◌⊎◌, ◌∙◌, ◌∷◌, List, [], ap, arith, drop, get_or}
 use Rattle.std.proofs.Common.{inl, inr, length, refl, subst, sym, take}
 use Rattle.std.specs.Prelude.{None, Some}
-use Rattle.std.proofs.lemmas.List.{drop_all, drop_more, take_rest}
+use Rattle.std.proofs.lemmas.List.{drop_all, drop_more}
 use Rattle.md_engine.specs.declared.event.Kind.TheVariants.{Enter}
 use Rattle.md_engine.specs.declared.event.Name.TheVariants.{Frontmatter}
 use Rattle.md_engine.specs.declared.event.Event.{Event}
 use Rattle.md_events.specs.Substituted.{Readings, wanted}
 use Rattle.md_events.specs.Events.Inline.{together}
 use Rattle.md_events.specs.TextPart.{Document, document_of, text_readings, wants_text}
-use Rattle.md_events.proofs.SubstitutedLemmas.{Leads, leads-all, leads-first, leads-part}
+use Rattle.md_events.proofs.SubstitutedLemmas.{Leads, leads-all, leads-first}
 use Rattle.md_events.specs.declared.inline.PartPlace.{PartPlace}
 use Rattle.markdown_blocks.specs.declared.part_places.Places.{Places}
 use Rattle.markdown_blocks.specs.PartPlaces.{places_from}
 use Rattle.markdown_blocks.proofs.Handed.{none-left, taken-more, together-more}
-use Rattle.markdown_blocks.proofs.PartWalk.{AreNext, ahead-first, ahead-next, ahead-part, ahead-stays, leads-stay}
+use Rattle.markdown_blocks.proofs.PartWalk.{AreNext, ahead-begun, ahead-first, ahead-part, ahead-placed, ahead-stays, begins-first, leads-begun}
+use Rattle.markdown_blocks.proofs.PartWalk.{leads-placed, leads-stay}
 use Rattle.markdown_blocks.proofs.text_parts.read_each.Goals as goal
 use Rattle.markdown_blocks.proofs.text_parts.read_each.Goals.{in_default-text_content-via-in-Some+else-left-gt1}
 use Rattle.markdown_blocks.proofs.text_parts.read_each.Goals.{in_default-text_content-via-in_default-text_content}
@@ -63,42 +64,38 @@ loop-left-preserved-then-left-gt1 g c =
     let inv = c.loop-left.invariant in
     let rest : List Event = c.loop-left.left.now in
     let read = c.in_ok-or_read-in-Some.ensures in
-    let place = c.place-to.ensures in
+    let place = c.place_chunks-left.ensures in
     let some : Some c.in-Some.content ≡ wanted wants_text (get_or rest 0 unset) =
     c.in-Some.ensures in
     let two : 1 < length rest = omega (arith, c.if-left-gt1.true) in
+    let before : List Event = drop c.loop-left.found.placed c.loop-left.found.events.items in
     let now : List Event = drop c.or_read.new.found.placed c.or_read.new.found.events.items in
-    let here : List Event =
-    take (c.place-to.result - c.or_read.new.found.placed)
-    (drop c.or_read.new.found.placed c.deref.result.now) in
-    let is : here ≡ take _ now =
-    ap (λ (l : List Event). take (c.place-to.result - c.or_read.new.found.placed) (drop c.or_read.new.found.placed l))
-    (c.deref.ensures.value ∙ place.events)
-    ∙ place.placed in
+    let many : ℕ = c.place_chunks-left.new.found.placed - c.or_read.new.found.placed in
+    let here : List Event = take many (drop c.or_read.new.found.placed c.deref.result.now) in
+    let is : here ≡ take many now =
+    ap (λ (l : List Event). take many (drop c.or_read.new.found.placed l)) (c.deref.ensures.value ∙ place.events) in
+    let after : List Event = drop c.place_chunks-left.new.found.placed c.place_chunks-left.new.found.events.items in
+    let ahead : List Event = c.place_chunks-left.result.now in
+    let begun : ℕ = c.or_read.new.found.chunks in
+    let chunks : ℕ = c.place_chunks-left.new.found.chunks in
+    let all : List Event = together inv.given in
     record {
       given = inv.given ++ here ∷ [];
       taken =
           taken-more g.S.Sink.takes c.args.sink.now c.loop-left.sink c.take.new.self inv.given here inv.taken
           c.in_ok-take-in-Some.ensures;
       substituted =
-          subst
-          (λ (l : List Event).
-          Leads wants_text reads c.args.events.now (drop c.place-to.new.self.placed c.place-to.new.self.events.items)
-          c.place-to.new.self.chunks l (together (inv.given ++ here ∷ []))) (sym (take_rest rest 2))
-          (leads-part wants_text reads c.args.events.now rest
-          (drop c.loop-left.found.placed c.loop-left.found.events.items) now
-          (drop c.place-to.new.self.placed c.place-to.new.self.events.items) (together inv.given)
-          (together (inv.given ++ here ∷ [])) c.loop-left.found.chunks c.or_read.new.found.chunks
-          c.place-to.new.self.chunks unset c.in-Some.content two some read.begun place.chunks
-          (together-more inv.given here ∙ ap (λ (l : List Event). together inv.given ++ l) is) place.left
-          inv.substituted);
+          subst (Leads wants_text reads c.args.events.now after chunks ahead) {x = all ++ take many now}
+          (sym (together-more inv.given here ∙ ap (λ (l : List Event). all ++ l) is))
+          (leads-placed reads c.args.events.now all now rest (take many now) after ahead begun chunks place.placed
+          (leads-begun wants_text reads c.args.events.now rest before now all c.loop-left.found.chunks begun unset
+          c.in-Some.content two some read.begun inv.substituted));
       ahead =
-          subst
-          (λ (l : List Event).
-          AreNext document (left_places c.or_read.new.places) c.place-to.new.self.chunks l)
-          (sym (take_rest rest 2))
-          (ahead-next document (left_places c.loop-left.places) c.loop-left.found.chunks _ _ _ _ rest _ _
-          unset c.in-Some.content two some read.begun place.chunks read.places inv.ahead);
+          ahead-placed document (left_places c.or_read.new.places) now rest (take many now) after ahead begun chunks
+          place.placed
+          (ahead-begun document (left_places c.loop-left.places) (left_places c.or_read.new.places)
+          c.loop-left.found.chunks begun _ rest before now unset c.in-Some.content two some read.begun read.places
+          inv.ahead);
     }
 
 pub loop-left-preserved : goal.loop-left-preserved
@@ -121,22 +118,23 @@ loop-left-preserved g c =
     let here : List Event = take (many - 0) rest in
     let all : many - 0 ≡ many = omega arith in
     let is : here ≡ take many rest = ap (λ (n : ℕ). take n rest) all in
+    let before : List Event = together inv.given in
+    let now : List Event = together (inv.given ++ here ∷ []) in
     record {
       given = inv.given ++ here ∷ [];
       taken =
           taken-more g.S.Sink.takes c.args.sink.now c.loop-left.sink c.take-in_default-text_content.new.self inv.given
           here inv.taken c.in_ok-take-in_default-text_content.ensures;
       substituted =
-          subst
-          (λ (l : List Event).
-          Leads wants_text reads c.args.events.now left chunks l (together (inv.given ++ here ∷ [])))
+          subst (λ (l : List Event). Leads wants_text reads c.args.events.now left chunks l now) {x = drop many rest}
           (sym c.split_at.ensures.back)
-          (subst (Leads wants_text reads c.args.events.now left chunks (drop many rest))
-          (sym (together-more inv.given here ∙ ap (λ (l : List Event). together inv.given ++ l) is))
-          (leads-stay wants_text reads c.args.events.now left (together inv.given) rest chunks many (get_or rest 0 unset)
+          (subst (Leads wants_text reads c.args.events.now left chunks (drop many rest)) {x = before ++ take many rest}
+          (sym (together-more inv.given here ∙ ap (λ (l : List Event). before ++ l) is))
+          (leads-stay wants_text reads c.args.events.now left before rest chunks many (get_or rest 0 unset)
           first stay c.staying-many.ensures.some c.staying-many.ensures.stay inv.substituted));
       ahead =
-          subst (AreNext document (left_places c.loop-left.places) chunks) (sym c.split_at.ensures.back)
+          subst (AreNext document (left_places c.loop-left.places) chunks) {x = drop many rest}
+          (sym c.split_at.ensures.back)
           (ahead-stays document (left_places c.loop-left.places) chunks many rest (get_or rest 0 unset)
           first stay c.staying-many.ensures.some c.staying-many.ensures.stay inv.ahead);
     }
@@ -149,5 +147,13 @@ returns g c =
     let none : c.loop-left.left.now ≡ [] = none-left c.loop-left.left.now (omega (arith, c.in_default.len_below)) in (
       inv.given,
       inv.taken,
-      leads-all wants_text reads c.args.events.now _ _ _ _ none inv.substituted,
+      leads-all wants_text reads c.args.events.now (drop c.loop-left.found.placed c.loop-left.found.events.items)
+          c.loop-left.left.now (together inv.given) c.loop-left.found.chunks none inv.substituted,
     )
+
+pub place_chunks-left-requires : goal.place_chunks-left-requires
+place_chunks-left-requires g c = record {
+  some = c.in_ok-or_read-in-Some.ensures.chunks;
+  two = omega (arith, c.if-left-gt1.true);
+  begins = begins-first c.loop-left.left.now unset c.in-Some.content (omega (arith, c.if-left-gt1.true)) c.in-Some.ensures;
+}
