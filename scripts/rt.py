@@ -317,6 +317,8 @@ def main():
     crate = getattr(library, "Crate", None)
     if not hasattr(crate, "stamp") or not hasattr(crate, "below") or not hasattr(rt, "main"):
         os.execvp("rt", ["rt", *sys.argv[1:]])
+    # Memory that a check gives back and takes again costs it a twelfth of its time, so its allocator keeps what it has.
+    os.environ.setdefault("MIMALLOC_PURGE_DELAY", "-1")
     list_once(crate)
     if plants:
         take_sums_once(crate)
