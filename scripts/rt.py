@@ -268,14 +268,14 @@ LAST = "hoxalgurre"
 
 
 def hasten_last(crate):
-    """Has several processes share the proof of that program: few others are proved beside it. Should they be killed, for
-    memory most likely, `rt` proves it once more, with one."""
+    """Has three processes share the proof of that program: beside it are proved the tests of the library, by one, and
+    little else. Should they be killed, for memory most likely, `rt` proves it once more, with one."""
     proved, tried = crate.ci, set()
 
     def ci(self, flags, tests):
         if self.name == LAST and not tests and flags == ["--jobs", "1"] and LAST not in tried:
             tried.add(LAST)
-            flags = ["--jobs", str(min(4, os.cpu_count() or 1))]
+            flags = ["--jobs", str(min(3, os.cpu_count() or 1))]
         return proved(self, flags, tests)
 
     crate.ci = ci
