@@ -263,18 +263,18 @@ def try_edits_in_one_task(rt):
     rt.add_edits = add_edits
 
 
-# The program whose proof ends last, long after all others.
-LAST = "hoxalgurre"
+# The crates beside which few others are proved: those above the first one, or above most, wait for them.
+ALMOST_ALONE = ("md_engine", "markdown_blocks", "hoxalgurre")
 
 
-def hasten_last(crate):
-    """Has three processes share the proof of that program: beside it are proved the tests of the library, by one, and
-    little else. Should they be killed, for memory most likely, `rt` proves it once more, with one."""
+def hasten_some(crate):
+    """Has three processes share the proof of each of these crates, while others have no processor to take. Should they be
+    killed, for memory most likely, `rt` proves it once more, with one."""
     proved, tried = crate.ci, set()
 
     def ci(self, flags, tests):
-        if self.name == LAST and not tests and flags == ["--jobs", "1"] and LAST not in tried:
-            tried.add(LAST)
+        if self.name in ALMOST_ALONE and not tests and flags == ["--jobs", "1"] and self.name not in tried:
+            tried.add(self.name)
             flags = ["--jobs", str(min(3, os.cpu_count() or 1))]
         return proved(self, flags, tests)
 
@@ -326,7 +326,7 @@ def main():
     if not re.search(r"rt ci .*NAME", rt.__doc__ or ""):
         take_sums_once(crate)
     if hasattr(getattr(rt, "Crate", None), "ci"):
-        hasten_last(rt.Crate)
+        hasten_some(rt.Crate)
         keep_checked(rt.Crate)
     if has_parts(rt, IN_TURN):
         try_edits_by_function(rt)
