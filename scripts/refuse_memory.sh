@@ -4,11 +4,11 @@
 # refused rises until a run meets no refusal (`scripts/refuse.c`).
 #
 # - Of `test_library`, those of one call of the library: `parse`, `parse_with`, `outline`, `outline_part`, `wrap::quote`,
-#   `wrap::item`, `wrap::footnote`, and the `run` of `blocks`, all on one text, those of `Parts` on another, those of
-#   `parse_with` with the inline layer and of `html` on one with each inline construct of GitHub, and those of
-#   `parse_into` and `html_of` on one of several parts. What the program asks
-#   for before and after the call is counted apart. A refused run ends with status 3 and prints nothing, and the last run
-#   prints what is given here. The states that take no memory answer while each request is refused.
+#   `wrap::item`, `wrap::footnote`, and the `run` of `blocks`, all on one text, those of `Parts` on another, its text
+#   parts read or not, those of `parse_with` with the inline layer and of `html` on one with each inline construct of
+#   GitHub, and those of `parse_into` and `html_of` on one of several parts. What the program asks for before and after
+#   the call is counted apart. A refused run ends with status 3 and prints nothing, and the last run prints what is given
+#   here. The states that take no memory answer while each request is refused.
 # - Of `blocks`, `events`, `plain_blocks`, `plain_inlines` and `examples_references`, those of the whole program: on the
 #   texts of their stored runs, and the first two with the argument `alerts` on each begin of a text with a byte order
 #   mark, frontmatter, headings of both kinds, quotes, a break, nested lists, an alert with a fence, HTML, definitions, in
@@ -217,6 +217,7 @@ CALLS = {
     "into": (LINKED_OUTLINE, b""),
     "html_of": (LINKED_PAGE, b""),
     "parts": (PARTS_OUTLINE, b""),
+    "blocks": (PARTS_OUTLINE, b""),
     "outline": (TEXT_OUTLINE, b""),
     "outline_part": (TEXT_OUTLINE, b""),
     "quote": (b"\n".join(b"> " + line for line in TEXT.split(b"\n")), b""),

@@ -172,7 +172,7 @@ fn print_inlines(rt: &HostRuntime) -> io::Result<()> {
         let (set, text) = row.split_once('\\n').unwrap_or(("", row));
         let constructs = if set == "all" { Constructs::ALL } else { Constructs::COMMONMARK };
         match Inlines::output(rt.alloc(), text, options_of(&constructs)) {
-            Ok(printed) => print!(rt; "{printed}\\u{4}")?,
+            Ok(printed) => print!(rt; "{}\\u{4}", str::from_utf8(&printed).unwrap_or(""))?,
             Err(_) => print!(rt; "out of memory\\u{4}")?,
         }
     }
@@ -186,20 +186,26 @@ fn try_bench<B: Body>(alloc: Global, rows: &str, report: &mut Report) -> Result<
     try_labels::<B>(alloc, report)
 }
 
+/// What was printed.
+fn shown(bytes: &[u8]) -> &str {
+    str::from_utf8(bytes).unwrap_or("")
+}
+
 /// Tries what is printed of the events of a body on the rows of events, with their layers.
 fn try_events<B: Body>(alloc: Global, report: &mut Report) -> Result<(), CaseError> {
     for row in test_rows::events::rows().split("\\n\\n") {
         let case = EventCase::read(alloc, row)?;
         let options = B::built(options_of(&case.constructs));
         let text = case.text.as_str();
-        let got = if case.marks_references {
+        let wanted = wanted(alloc, &case)?;
+        if case.marks_references {
             let (marked, _state) = parse_with(alloc, &References, text, &options).or(Err(CaseError::Memory))?;
-            print(alloc, &marked)
+            let got = print(alloc, &marked).or(Err(CaseError::Memory))?;
+            report.add(case.section, text, wanted.as_str(), got.as_str())?;
         } else {
-            Events::output(alloc, text, options)
-        };
-        let got = got.or(Err(CaseError::Memory))?;
-        report.add(case.section, text, wanted(alloc, &case)?.as_str(), got.as_str())?;
+            let got = Events::output(alloc, text, options).or(Err(CaseError::Memory))?;
+            report.add(case.section, text, wanted.as_str(), shown(&got))?;
+        }
     }
     Ok(())
 }
@@ -234,12 +240,12 @@ fn try_others(alloc: Global, report: &mut Report) -> Result<(), CaseError> {
     let text = "[a]: b\\n\\n> c\\n\\n[^d]: e\\n";
     let wanted = OutlineOf::<Blocks>::output(alloc, text, ParseOptions::GFM).or(Err(CaseError::Memory))?;
     let got = PartByPart::output(alloc, text, ParseOptions::GFM).or(Err(CaseError::Memory))?;
-    report.add("an outline by parts", text, wanted.as_str(), got.as_str())?;
+    report.add("an outline by parts", text, shown(&wanted), shown(&got))?;
     // What is known of the item may not be taken for known of the quote.
     let text = "- a\\n\\nb\\n\\n> ```\\n\\nc\\n";
     let wanted = OutlineOf::<Plain>::output(alloc, text, ParseOptions::GFM).or(Err(CaseError::Memory))?;
     let got = OutlineOf::<Blocks>::output(alloc, text, ParseOptions::GFM).or(Err(CaseError::Memory))?;
-    report.add("containers at an empty line", text, wanted.as_str(), got.as_str())?;
+    report.add("containers at an empty line", text, shown(&wanted), shown(&got))?;
     let first = Point { line: 1, column: 1, index: 0, vs: 0 };
     let mut tokenizer = Tokenizer::new(alloc, first, &[], &ParseOptions::GFM);
     for name in [ResolveName::ListItem, ResolveName::GfmTable] {

@@ -15,7 +15,7 @@ use markdown_blocks::message::Message;
 use markdown_blocks::parser::parse_with;
 use markdown_blocks::wrap::{item, quote};
 use md_program::body::{Body, MOST};
-use md_program::printing::Printing;
+use md_program::printing::{Printing, bytes_of};
 use md_program::run::run;
 use md_program::system::{Uninterrupted, arguments};
 use printing::blocks::Blocks;
@@ -32,7 +32,7 @@ impl Printing for Marked {
     // Of what is printed nothing is promised: the contract of `parse_with` is what the program shows.
     ghost prints = { λ text options output. Unit {0} };
 
-    fn output(alloc: Global, text: &str, options: ParseOptions) -> Result<String, Message> {
+    fn output(alloc: Global, text: &str, options: ParseOptions) -> Result<Vec<u8>, Message> {
         let options = Blocks::built(options);
         let mut lines = String::new(alloc);
         push_references(alloc, &mut lines, "text\n", text, &options)?;
@@ -50,7 +50,7 @@ impl Printing for Marked {
             &item(alloc, text, &options)?,
             &options,
         )?;
-        Ok(lines)
+        bytes_of(alloc, &lines)
     }
 }
 

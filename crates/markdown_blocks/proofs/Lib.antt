@@ -58,3 +58,5 @@ mod PlacedParts
 mod PartWalk
 pub mod Handed
 pub mod DefinitionLemmas
+pub mod OwnChunks
+pub mod BlocksShown

@@ -1,7 +1,7 @@
 -- What is left of a text at first is its exact list: its front, and what it has from there on.
-use Rattle.std.proofs.Common.{◌≡◌, ◌⊎◌, inl, inr, ◌<◌, ◌≤◌, ◌+◌, ◌-◌, ℕ, Bool, true, false, cond, not, ◌&&◌, ◌||◌}
+use Rattle.std.proofs.Common.{◌≡◌, ◌⊎◌, inl, inr, ◌^◌, ◌<◌, ◌≤◌, ◌+◌, ◌-◌, ℕ, Bool, true, false, cond, not, ◌&&◌, ◌||◌}
 use Rattle.std.proofs.Common.{List, [], ◌∷◌, ◌++◌, length, take, drop, map, refl, ap, ap₂, sym, ◌∙◌, subst, arith}
-use Rattle.std.proofs.Common.{append_assoc, length-drop, nat_lt}
+use Rattle.std.proofs.Common.{append-nil, append_assoc, length-drop, nat_lt}
 use Rattle.std.specs.Prelude.{◌==◌, Option, Some, None, is_none}
 use Rattle.std.specs.List.{list_all, onto_first}
 use Rattle.std.proofs.lemmas.Bool.{and_parts}
@@ -51,13 +51,14 @@ use Rattle.proof_rows.proofs.Begun.{IsBegun, begun, fronts-defined, fronts-noted
 use Rattle.markdown_blocks.specs.declared.parts.Part.{Part}
 use Rattle.markdown_blocks.specs.FrontRead.{exact_front}
 use Rattle.markdown_blocks.specs.Parsed.{IsParsed, IsSmall}
-use Rattle.markdown_blocks.specs.PartRead.{AreAhead, AreLaid, HasPart, MayRead, events_after, events_at, events_left}
+use Rattle.markdown_blocks.specs.PartRead.{AreAhead, AreLaid, HasPart, HasUnread, MayRead, before_next}
+use Rattle.markdown_blocks.specs.PartRead.{events_after, events_at, events_left}
 use Rattle.markdown_blocks.specs.PartRead.{labels_after, labels_at, labels_left, labels_of, place_left, point_after}
 use Rattle.markdown_blocks.specs.PartRead.{point_in, unread_after, unread_at}
 use Rattle.markdown_blocks.proofs.ContentGroups.{part-of}
-use Rattle.markdown_blocks.proofs.PartLaid.{covers-from, covers-to}
+use Rattle.markdown_blocks.proofs.PartLaid.{covers-from, covers-to, some-events}
 use Rattle.markdown_blocks.proofs.PartLined.{lined-one}
-use Rattle.markdown_blocks.proofs.PartWhole.{lined-plain}
+use Rattle.markdown_blocks.proofs.PartWhole.{lined-plain, lines-apart, text-placed}
 use Rattle.markdown_blocks.proofs.TreeRows.{body_of, tree-body}
 
 -- The lines of a text are determined.
@@ -287,6 +288,15 @@ module _ (options : ParseOptions) (text : List ℕ) (p : Point) (front : List Ev
       go true e = refl
       go false e = ap (λ (es : List Event). front ++ es) (end-events options text p (past e))
 
+  -- of which those of the front stay
+  front-lines : lined wants_text text front ≡ front
+  front-lines =
+      ap (lined wants_text text) (sym (append-nil front))
+      ∙ lined-front wants_text text front []
+      (subst (λ (l : List Event). list_all (stays wants_text) l ≡ true) (sym read.is)
+      (front-stays wants_text options text))
+      ∙ append-nil front
+
   -- and read as lines
   pub events-left : front ++ events_after options text (point_in text p) ≡ lined wants_text text (exact options text)
   events-left = go (nat_lt p.index (length text)) refl
@@ -370,14 +380,28 @@ module _ (options : ParseOptions) (text : List ℕ) (p : Point) (front : List Ev
       AreAhead options text begun start front (point_in text p)
   front-ahead begun start unread =
       subst (λ (x : Bool). AreAhead options text x start front (point_in text p)) (sym unread)
-      (record { events = sym events-left; labels = sym labels-left; laid = from-first; may = may-read })
+      (record {
+        blocks = blocks-left;
+        events = sym events-left;
+        lines = front-lines;
+        labels = sym labels-left;
+        laid = from-first;
+        may = may-read;
+      })
 
 -- Where a part was handed out, nothing is left of the front.
 pub begun-ahead : (options : ParseOptions) (text : List ℕ) (begun : Bool) (start : Option Point) → begun ≡ true →
     ((p : Point) → start ≡ Some p → MayRead options text p) → AreAhead options text begun start [] start
 begun-ahead options text begun start taken may =
     subst (λ (x : Bool). AreAhead options text x start [] start) (sym taken)
-    (record { events = refl; labels = refl; laid = none-laid text (point_after text start); may = may })
+    (record {
+      blocks = refl;
+      events = refl;
+      lines = refl;
+      labels = refl;
+      laid = none-laid text (point_after text start);
+      may = may;
+    })
 
 -- From one part to the next, where the front was handed out.
 
@@ -385,6 +409,18 @@ begun-ahead options text begun start taken may =
 module _ (options : ParseOptions) (text : List ℕ) (begun : Bool) (start : Option Point) (front : List Event)
     (following : Option Point) (p : Point) (ahead : AreAhead options text begun start front following)
     (none : front ≡ []) (is : following ≡ Some p) where
+  laid-from : (events : List Event) (q : Point) → AreLaid text p events q →
+      AreLaid text (place_left text begun start) events q
+  laid-from events q laid = record {
+    nested = laid.nested;
+    placed = laid.placed;
+    covers =
+        covers-from (place_left text begun start) p q (pieces events)
+        (subst (λ (o : Option Point). same_place (place_left text begun start) (point_after text o) ≡ true) is
+        (subst (λ (l : List Event). Covers (place_left text begun start) (pieces l) (point_after text following))
+        none ahead.laid.covers)) laid.covers;
+  }
+
   module _ (part : Part) (next : Option Point) (has : HasPart options text p part next) where
     pub next-events : events_left options text begun start ≡ part.events.items ++ events_after options text next
     next-events =
@@ -395,12 +431,28 @@ module _ (options : ParseOptions) (text : List ℕ) (begun : Bool) (start : Opti
     next-labels = ahead.labels ∙ ap (labels_after options text) is ∙ has.labels
 
     pub next-laid : AreLaid text (place_left text begun start) part.events.items (point_after text next)
-    next-laid = record {
-      nested = has.laid.nested;
-      placed = has.laid.placed;
-      covers =
-          covers-from (place_left text begun start) p (point_after text next) (pieces part.events.items)
-          (subst (λ (o : Option Point). same_place (place_left text begun start) (point_after text o) ≡ true) is
-          (subst (λ (l : List Event). Covers (place_left text begun start) (pieces l) (point_after text following))
-          none ahead.laid.covers)) has.laid.covers;
-    }
+    next-laid = laid-from part.events.items (point_after text next) has.laid
+
+  -- whose text parts are not read
+  module _ (part : Part) (next : Option Point) (small : length text < 2 ^ 61)
+      (has : HasUnread options text p part next) where
+    pub unread-lines : events_left options text begun start ≡
+        lined wants_text text part.events.items ++ events_after options text next
+    unread-lines =
+        ahead.events ∙ ap₂ (λ (l : List Event) (o : Option Point). l ++ events_after options text o) none is
+        ∙ lines-apart options text p part next has
+
+    pub unread-laid : AreLaid text (place_left text begun start) part.events.items (point_after text next)
+    unread-laid =
+        laid-from part.events.items (point_after text next)
+        (record {
+          nested = has.list.nested;
+          placed =
+              events-placed text part.events.items (text-placed options text p part next small has);
+          covers =
+              covers-to p (end_point (before_next text next)) (point_after text next) (pieces part.events.items)
+              has.covers has.place;
+        })
+
+    pub unread-some : 0 < length part.events.items
+    unread-some = some-events p (end_point (before_next text next)) part.events.items has.covers has.some

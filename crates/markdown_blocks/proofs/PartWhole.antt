@@ -41,7 +41,8 @@ use Rattle.markdown_blocks.specs.declared.parts.Part.{Part}
 use Rattle.markdown_blocks.specs.Fed.{flow_begins, line_begins}
 use Rattle.markdown_blocks.specs.FlowReads.{FlowReads}
 use Rattle.markdown_blocks.specs.PartRead.{AreLaid, BeginsPart, HasUnread, HasPart, IsPartRead, MayEnd, MayRead}
-use Rattle.markdown_blocks.specs.PartRead.{before_next, events_after, is_line_begin, labels_after, labels_at, labels_of}
+use Rattle.markdown_blocks.specs.PartRead.{before_next, events_after, events_at, is_line_begin, labels_after}
+use Rattle.markdown_blocks.specs.PartRead.{labels_at, labels_of}
 use Rattle.markdown_blocks.specs.PartRead.{point_after, unread_after, unread_at}
 use Rattle.markdown_blocks.proofs.PartBegins.{part-may, part-placed, part-point}
 use Rattle.markdown_blocks.proofs.LineWaits.{outside-cut, text-cut}
@@ -258,6 +259,21 @@ text-placed options text p part next small has =
     all-within text (before_next text next) has.within part.events.items
     (is-placed options text p part next small has)
 
+-- read so, they are followed by those of the next part
+pub lines-apart : (options : ParseOptions) (text : List ℕ) (p : Point) (part : Part) (next : Option Point) →
+    HasUnread options text p part next →
+    events_at options text p ≡ lined wants_text text part.events.items ++ events_after options text next
+lines-apart options text p part next has =
+    ap (lined wants_text text) has.events
+    ∙ lined-append wants_text text part.events.items (unread_after options text next)
+    (chunks-last 0 part.events.items has.list.chunks)
+    ∙ ap (λ (l : List Event). lined wants_text text part.events.items ++ l) (after next)
+  where
+    after : (next : Option Point) →
+        lined wants_text text (unread_after options text next) ≡ events_after options text next
+    after None = refl
+    after (Some q) = refl
+
 -- Where they were, this is the part that the text has.
 pub lines-read : (options : ParseOptions) (text : List ℕ) (p : Point) (part read : Part) (next : Option Point) →
     length text < 2 ^ 61 → HasUnread options text p part next →
@@ -267,11 +283,9 @@ pub lines-read : (options : ParseOptions) (text : List ℕ) (p : Point) (part re
     labels_of read ≡ labels_of part → HasPart options text p read next
 lines-read options text p part read next small has substituted same = record {
   events =
-      ap (lined wants_text text) has.events
-      ∙ lined-append wants_text text part.events.items (unread_after options text next)
-      (chunks-last 0 part.events.items has.list.chunks)
-      ∙ ap₂ (λ (xs ys : List Event). xs ++ ys)
-      (in-text next read-as (is-placed options text p part next small has)) (after next);
+      lines-apart options text p part next has
+      ∙ ap (λ (l : List Event). l ++ events_after options text next)
+      (in-text next read-as (is-placed options text p part next small has));
   labels = has.labels ∙ ap (λ (l : Labels). both l (labels_after options text next)) (sym same);
   some = some-events p (end_point bytes) read.events.items laid.covers has.some;
   laid = record {
@@ -302,11 +316,6 @@ lines-read options text p part read next small has substituted same = record {
         lined wants_text text part.events.items ≡ read.events.items
     in-text None e placed = sym e
     in-text (Some q) e placed = sym (e ∙ lined-within wants_text text q.index part.events.items placed)
-
-    after : (next : Option Point) →
-        lined wants_text text (unread_after options text next) ≡ events_after options text next
-    after None = refl
-    after (Some q) = refl
 
     laid : AreLaid bytes p read.events.items (end_point bytes)
     laid =

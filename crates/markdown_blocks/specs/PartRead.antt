@@ -155,6 +155,10 @@ pub record AreAllBlocks (options : ParseOptions) (text : List ℕ) (all : Part) 
 -- What is left of a text that is read part by part: all of it before its front is read, and then what it has from the
 -- next part on, if there is one.
 
+abbrev pub unread_left : ParseOptions → List ℕ → Bool → Option Point → List Event
+unread_left options text false start = exact options text
+unread_left options text true start = unread_after options text start
+
 abbrev pub events_left : ParseOptions → List ℕ → Bool → Option Point → List Event
 events_left options text false start = lined wants_text text (exact options text)
 events_left options text true start = events_after options text start
@@ -189,7 +193,10 @@ pub record IsPartRead (options : ParseOptions) (bytes : List ℕ) (p : Point) (p
 -- What is left of a text begins with these events of its front, if any, and the next part begins after them.
 pub record AreAhead (options : ParseOptions) (text : List ℕ) (begun : Bool) (start : Option Point)
     (front : List Event) (next : Option Point) : Type 0 where
+  pub blocks : unread_left options text begun start ≡ front ++ unread_after options text next
   pub events : events_left options text begun start ≡ front ++ events_after options text next
+  -- none of these has a text part
+  pub lines : lined wants_text text front ≡ front
   pub labels : labels_left options text begun start ≡ labels_after options text next
   pub laid : AreLaid text (place_left text begun start) front (point_after text next)
   pub may : (p : Point) → next ≡ Some p → MayRead options text p

@@ -23,12 +23,14 @@ ghost use Rattle.md_engine.specs.Scheme.{valid};
 ghost use Rattle.md_engine.specs.World.{fresh, world};
 ghost use Rattle.md_events.specs.Events.Inline.{plain_chunks, together};
 ghost use Rattle.md_events.specs.Events.Places.{first_point, same_place};
+ghost use Rattle.md_events.specs.Events.Spelled.{spelled};
 ghost use Rattle.md_events.specs.Events.Tiles.{end_point};
 ghost use Rattle.md_events.specs.Lined.{AreLines, lined};
 ghost use Rattle.md_events.specs.TextPart.{wants_text};
 ghost use Rattle.md_events.specs.Exact.Blocks.{exact};
 ghost use Rattle.md_meaning.specs.Label.{both, labels, no_labels};
 ghost use Rattle.md_meaning.specs.Meaning.{tree};
+ghost use Rattle.md_outline.specs.Outlined.{IsOutlined};
 ghost use Rattle.md_registry.specs.States.{FlowStep, flow_table_scheme};
 ghost use Rattle.markdown_blocks.specs.Fed.{flow_begins, line_begins};
 ghost use Rattle.markdown_blocks.specs.FlowReads.{FlowReads};
@@ -258,10 +260,12 @@ fn part_end(text: &[u8], from: usize, least: usize) -> usize
             return end;
         }
         let to = next_line(text, end);
-        if to < text.len() && is_line_begin(text, to) {
+        if to < text.len() {
             let line = &text[begin..end];
             let ends_text = is_ending(text[to]) && may_end_text(line);
-            if ends_text || begin >= far && is_after_line(text, begin, to) && may_end_leaf(line) {
+            let ends = ends_text
+                || begin >= far && may_end_leaf(line) && is_after_line(text, begin, to);
+            if ends && is_line_begin(text, to) {
                 return to;
             }
         }
@@ -563,7 +567,7 @@ pub(crate) fn point_in(text: &[u8], point: Point) -> Option<Point>
 }
 
 impl<'a> Parts<'a> {
-    ghost use Rattle.markdown_blocks.specs.PartsLeft.{left_in};
+    ghost use Rattle.markdown_blocks.specs.PartsLeft.{left_in, left_of};
 
     /// A text that is read in parts of 64 KiB, or larger where a block is.
     ///
@@ -573,6 +577,9 @@ impl<'a> Parts<'a> {
         requires size { IsSmall value.now }
         requires built { IsWithoutMdx options.now }
         ensures text { (left_in result).text ≡ value.now }
+        ensures blocks { (left_in result).blocks ≡ exact options.now value.now }
+        ensures outlined { IsOutlined (left_in result).blocks value.now }
+        ensures tree { spelled (left_in result).blocks value.now ≡ tree options.now value.now }
         ensures events { (left_in result).events ≡ lined wants_text value.now (exact options.now value.now) }
         ensures parsed { (events : List Event) (state : ParseState) → IsParsed value.now options.now events state →
             (left_in result).events ≡ events }
@@ -594,6 +601,9 @@ impl<'a> Parts<'a> {
         requires size { IsSmall value.now }
         requires built { IsWithoutMdx options.now }
         ensures text { (left_in result).text ≡ value.now }
+        ensures blocks { (left_in result).blocks ≡ exact options.now value.now }
+        ensures outlined { IsOutlined (left_in result).blocks value.now }
+        ensures tree { spelled (left_in result).blocks value.now ≡ tree options.now value.now }
         ensures events { (left_in result).events ≡ lined wants_text value.now (exact options.now value.now) }
         ensures parsed { (events : List Event) (state : ParseState) → IsParsed value.now options.now events state →
             (left_in result).events ≡ events }
@@ -627,6 +637,74 @@ impl<'a> Parts<'a> {
         Ok((front.events, start))
     }
 
+    /// The front of a text as a part, after which the next part begins here, if there is one.
+    fn begin(&mut self, front: Vec<Event>, start: Option<Point>) -> Part
+        requires { ForSome start (λ p. MayRead self.old.options.now self.old.bytes.now p) }
+        ensures events { result.events ≡ front }
+        ensures labels { labels_of result ≡ no_labels }
+        ensures left { left_in self.new ≡ left_of self.old.options.now self.old.bytes.now true start }
+    {
+        self.begun = true;
+        self.start = start;
+        Part {
+            events: front,
+            definitions: Vec::new(self.alloc),
+            gfm_footnote_definitions: Vec::new(self.alloc),
+        }
+    }
+
+    /// The next part as `next` returns it, but its text parts are not read: the text on each line of one is a linked
+    /// `Data`. An outline of these events is that of those that `next` returns.
+    ///
+    /// What an `Err` says is as for `next`.
+    pub fn next_blocks(&mut self) -> Result<Option<Part>, Message>
+        ensures text { (left_in self.new).text ≡ (left_in self.old).text }
+        ensures blocks { IfOk result
+            (λ part.
+            IfSome part (λ part. (left_in self.old).blocks ≡ part.events.items ++ (left_in self.new).blocks)) }
+        ensures lines { IfOk result
+            (λ part.
+            IfSome part
+            (λ part.
+            (left_in self.old).events ≡
+            lined wants_text (left_in self.old).text part.events.items ++ (left_in self.new).events)) }
+        ensures some { IfOk result (λ part. IfSome part (λ part. 0 < length part.events.items)) }
+        ensures labels { IfOk result
+            (λ part.
+            IfSome part (λ part. (left_in self.old).labels ≡ both (labels_of part) (left_in self.new).labels)) }
+        ensures laid { IfOk result
+            (λ part.
+            IfSome part
+            (λ part.
+            AreLaid (left_in self.old).text (left_in self.old).place part.events.items (left_in self.new).place)) }
+        ensures none { IfOk result (λ part. IfNone part ((left_in self.old).blocks ≡ [])) }
+        ensures defined { IfOk result (λ part. IfNone part ((left_in self.old).labels ≡ no_labels)) }
+        ensures end { IfOk result
+            (λ part.
+            IfNone part (same_place (left_in self.old).place (end_point (left_in self.old).text) ≡ true)) }
+        ensures stays { IfOk result (λ part. IfNone part (left_in self.new ≡ left_in self.old)) }
+        ensures failed { IfErr result (λ error. left_in self.new ≡ left_in self.old) }
+    {
+        let (front, start) = self.ahead()?;
+        if !front.is_empty() {
+            return Ok(Some(self.begin(front, start)));
+        }
+        let Some(start) = start else {
+            return Ok(None);
+        };
+        let (part, next) = read_at_least(
+            self.alloc,
+            self.bytes,
+            self.options,
+            start,
+            self.least,
+            &mut self.spare,
+        )?;
+        self.begun = true;
+        self.start = next;
+        Ok(Some(part))
+    }
+
     /// The next part, or `None` where all of the text was handed out. The front of a text is a part of its own. Each part
     /// has an event at least.
     ///
@@ -655,13 +733,7 @@ impl<'a> Parts<'a> {
     {
         let (front, start) = self.ahead()?;
         if !front.is_empty() {
-            self.begun = true;
-            self.start = start;
-            return Ok(Some(Part {
-                events: front,
-                definitions: Vec::new(self.alloc),
-                gfm_footnote_definitions: Vec::new(self.alloc),
-            }));
+            return Ok(Some(self.begin(front, start)));
         }
         let Some(start) = start else {
             return Ok(None);

@@ -4,6 +4,7 @@
 
 pub mod body;
 pub mod failure;
+pub mod output;
 pub mod print;
 pub mod printing;
 pub mod run;

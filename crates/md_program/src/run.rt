@@ -46,8 +46,8 @@ fn attempt<P: Printing, R: Read, W: Write>(
         (W.contents output.old) (W.contents output.new)
         in MatchResult result (λ _. ran None) (λ failure. ran (Some failure)) }
 {
-    let text = whole_output::<P, R>(alloc, args, input)?;
-    write_whole(output, text.as_bytes())
+    let bytes = whole_output::<P, R>(alloc, args, input)?;
+    write_whole(output, bytes.as_slice())
 }
 
 // All that is to be written.
@@ -55,10 +55,10 @@ fn whole_output<P: Printing, R: Read>(
     alloc: Global,
     args: &[String],
     input: &mut R,
-) -> Result<String, Failure>
+) -> Result<Vec<u8>, Failure>
     ensures { MatchResult result
-        (λ text. Prints (Shows P.prints (R.remaining input.old))
-        (set_asked_for (map string_bytes args.now)) (string_bytes text))
+        (λ bytes. Prints (Shows P.prints (R.remaining input.old))
+        (set_asked_for (map string_bytes args.now)) bytes.items)
         (Stops (set_asked_for (map string_bytes args.now)) (R.remaining input.old) (R.remaining input.new)) }
 {
     let Some(set) = asked_for(args) else {

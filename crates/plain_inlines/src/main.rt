@@ -33,7 +33,7 @@ use crate::printed::print;
 use md_engine::configuration::ParseOptions;
 use md_engine::message::Message;
 use md_inlines::InlineOptions;
-use md_program::printing::Printing;
+use md_program::printing::{Printing, bytes_of};
 use md_program::system::{Uninterrupted, arguments};
 use reference_inlines::content::content;
 use reference_inlines::labels::{Defined, lines};
@@ -91,11 +91,12 @@ fn print_content(
 impl Printing for Inlines {
     ghost prints = { PrintsInlines };
 
-    fn output(alloc: Global, text: &str, options: ParseOptions) -> Result<String, Message> {
+    fn output(alloc: Global, text: &str, options: ParseOptions) -> Result<Vec<u8>, Message> {
         let input = text.as_bytes();
         let more = lines(alloc, further_in(input))?;
         let options = inline_options(options, &more);
-        print_content(alloc, &options, &more, text_in(input))
+        let printed = print_content(alloc, &options, &more, text_in(input))?;
+        bytes_of(alloc, &printed)
     }
 }
 

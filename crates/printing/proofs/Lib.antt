@@ -1,3 +1,1 @@
-pub mod LinedParts
 pub mod PartsPrinted
-pub mod WholeParts

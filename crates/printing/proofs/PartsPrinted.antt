@@ -1,31 +1,25 @@
 -- What is printed of an outline part by part.
-use Rattle.std.proofs.Common.{◌≡◌, ◌^◌, ◌<◌, ℕ, true, List, [], ◌∷◌, ◌++◌, length, map, append-nil, append_assoc, sym}
+use Rattle.std.proofs.Common.{◌≡◌, ℕ, true, List, [], ◌∷◌, ◌++◌, length, map, append-nil, append_assoc, sym}
 use Rattle.std.proofs.Common.{◌∙◌, String, string_bytes, Global, ap, arith, subst}
 use Rattle.std.specs.Prelude.{◌==◌, IfSome, Option, Some}
 use Rattle.std.specs.List.{flat_map}
-use Rattle.std.specs.Str.{IsUtf8}
 use Rattle.std.proofs.lemmas.Grind.{flat_map-append}
 use Rattle.std.proofs.lemmas.List.{map-append}
 use Rattle.md_engine.specs.declared.configuration.ParseOptions.{ParseOptions}
 use Rattle.md_engine.specs.declared.event.Event.{Event}
 use Rattle.md_events.specs.Events.Nested.{Nested}
 use Rattle.md_events.specs.Events.Spelled.{spelled}
-use Rattle.md_events.specs.Lined.{lined}
-use Rattle.md_events.specs.TextPart.{wants_text}
-use Rattle.md_events.specs.Exact.Blocks.{exact}
-use Rattle.md_meaning.specs.Label.{Labels, both, labels, no_labels}
+use Rattle.md_meaning.specs.Label.{Labels, both, labels}
 use Rattle.md_meaning.specs.Meaning.{tree}
 use Rattle.md_meaning.specs.Outline.{outline}
 use Rattle.md_meaning.specs.Tree.{Blocks}
 use Rattle.md_outline.specs.Outlined.{IsOutlined}
 use Rattle.md_outline.proofs.FirstBlocks.{IsDivided, divided}
 use Rattle.md_program.specs.Printed.{PrintsOutline, printed, printed_end, printed_line}
-use Rattle.markdown_blocks.specs.Parsed.{IsSmall, IsWithoutMdx}
 use Rattle.markdown_blocks.specs.PartRead.{AreLaid, labels_of}
 use Rattle.markdown_blocks.specs.PartsLeft.{Left}
 use Rattle.markdown_blocks.specs.declared.parts.Part.{Part}
 use Rattle.printing.specs.Built.{Outlines, built_from}
-use Rattle.printing.proofs.WholeParts.{lined-outlined, lined-spelled}
 
 -- the printed outline of some events
 abbrev pub outline_of : List Event → List ℕ → List ℕ
@@ -46,9 +40,9 @@ none-left (e ∷ rest) left = absurd (grind (arith, left))
 pub record ArePrinted (options : ParseOptions) (text : List ℕ) (left : Left) (front so_far : List ℕ)
     (definitions footnotes : List (String Global)) : Type 0 where
   -- an outline can show what is left,
-  pub outlined : IsOutlined left.events text
+  pub outlined : IsOutlined left.blocks text
   -- after whose outline all would be printed,
-  pub lines : so_far ++ outline_of left.events text ≡ front ++ flat_map printed_line (outline 0 (tree options text))
+  pub lines : so_far ++ outline_of left.blocks text ≡ front ++ flat_map printed_line (outline 0 (tree options text))
   -- and after whose labels all would be found
   pub definitions_are : map string_bytes definitions ++ left.labels.definitions ≡
       (labels (tree options text)).definitions
@@ -56,45 +50,39 @@ pub record ArePrinted (options : ParseOptions) (text : List ℕ) (left : Left) (
 
 -- before the first part
 pub first-printed : (options : ParseOptions) (text : List ℕ) (left : Left) (front : List ℕ)
-    (definitions footnotes : List (String Global)) → IsWithoutMdx options → IsSmall text → IsUtf8 text →
-    left.events ≡ lined wants_text text (exact options text) → left.labels ≡ labels (tree options text) →
+    (definitions footnotes : List (String Global)) → IsOutlined left.blocks text →
+    spelled left.blocks text ≡ tree options text → left.labels ≡ labels (tree options text) →
     definitions ≡ [] → footnotes ≡ [] → ArePrinted options text left front front definitions footnotes
-first-printed options text left front definitions footnotes built most utf8 events are no_definitions no_footnotes =
-    let small : length text < 2 ^ 61 = omega (arith, most) in
-    record {
-      outlined =
-          subst (λ (l : List Event). IsOutlined l text) (sym events) (lined-outlined options text built small utf8);
-      lines =
-          ap (λ (l : List Event). front ++ outline_of l text) events
-          ∙ ap (λ (bs : Blocks). front ++ flat_map printed_line (outline 0 bs))
-          (lined-spelled options text built small);
-      definitions_are =
-          ap (λ (l : List (String Global)). map string_bytes l ++ left.labels.definitions) no_definitions
-          ∙ ap (λ (l : Labels). l.definitions) are;
-      footnotes_are =
-          ap (λ (l : List (String Global)). map string_bytes l ++ left.labels.footnotes) no_footnotes
-          ∙ ap (λ (l : Labels). l.footnotes) are;
-    }
+first-printed options text left front definitions footnotes outlined spells are no_definitions no_footnotes = record {
+  outlined = outlined;
+  lines = ap (λ (bs : Blocks). front ++ flat_map printed_line (outline 0 bs)) spells;
+  definitions_are =
+      ap (λ (l : List (String Global)). map string_bytes l ++ left.labels.definitions) no_definitions
+      ∙ ap (λ (l : Labels). l.definitions) are;
+  footnotes_are =
+      ap (λ (l : List (String Global)). map string_bytes l ++ left.labels.footnotes) no_footnotes
+      ∙ ap (λ (l : Labels). l.footnotes) are;
+}
 
 -- What is left begins with a part.
 pub record IsNext (before after : Left) (part : Part) : Type 0 where
-  pub events : before.events ≡ part.events.items ++ after.events
+  pub blocks : before.blocks ≡ part.events.items ++ after.blocks
   pub labels_are : before.labels ≡ both (labels_of part) after.labels
   pub nested : Nested part.events.items
 
 pub is-next : (before after : Left) (handed : Option Part) (part : Part) → handed ≡ Some part →
-    IfSome handed (λ (p : Part). before.events ≡ p.events.items ++ after.events) →
+    IfSome handed (λ (p : Part). before.blocks ≡ p.events.items ++ after.blocks) →
     IfSome handed (λ (p : Part). before.labels ≡ both (labels_of p) after.labels) →
     IfSome handed (λ (p : Part). AreLaid before.text before.place p.events.items after.place) →
     IsNext before after part
-is-next before after handed part is events are laid =
+is-next before after handed part is blocks are laid =
     let laid_out : AreLaid before.text before.place part.events.items after.place =
     subst (λ (o : Option Part).
     IfSome o (λ (p : Part). AreLaid before.text before.place p.events.items after.place)) is laid in
     record {
-      events =
-          subst (λ (o : Option Part). IfSome o (λ (p : Part). before.events ≡ p.events.items ++ after.events)) is
-          events;
+      blocks =
+          subst (λ (o : Option Part). IfSome o (λ (p : Part). before.blocks ≡ p.events.items ++ after.blocks)) is
+          blocks;
       labels_are =
           subst (λ (o : Option Part). IfSome o (λ (p : Part). before.labels ≡ both (labels_of p) after.labels)) is are;
       nested = laid_out.nested;
@@ -102,10 +90,10 @@ is-next before after handed part is events are laid =
 
 -- An outline can show it, and what is left after it.
 pub part-divided : (before after : Left) (part : Part) (text : List ℕ) → IsNext before after part →
-    IsOutlined before.events text → IsDivided part.events.items after.events text
+    IsOutlined before.blocks text → IsDivided part.events.items after.blocks text
 part-divided before after part text next is =
-    divided part.events.items after.events text next.nested.balanced.closed
-    (subst (λ (es : List Event). IsOutlined es text) next.events is)
+    divided part.events.items after.blocks text next.nested.balanced.closed
+    (subst (λ (es : List Event). IsOutlined es text) next.blocks is)
 
 -- labels are moved after others
 moved : (found more now : List (String Global)) (left rest all : List (List ℕ)) → now ≡ found ++ more →
@@ -127,21 +115,21 @@ pub next-printed : (options : ParseOptions) (text bytes : List ℕ) (before afte
     ArePrinted options text left front now definitions_now footnotes_now
 next-printed options text bytes before after left part front so_far now definitions footnotes definitions_now
     footnotes_now next reused same put edefinitions efootnotes are =
-    let parts : IsDivided part.events.items after.events text =
+    let parts : IsDivided part.events.items after.blocks text =
     part-divided before after part text next are.outlined in
     subst (λ (l : Left). ArePrinted options text l front now definitions_now footnotes_now) (sym reused)
     (record {
       outlined = parts.rest;
       lines =
-          ap (λ (l : List ℕ). l ++ outline_of after.events text)
+          ap (λ (l : List ℕ). l ++ outline_of after.blocks text)
           (put ∙ ap (λ (b : List ℕ). so_far ++ outline_of part.events.items b) same)
-          ∙ append_assoc so_far (outline_of part.events.items text) (outline_of after.events text)
+          ∙ append_assoc so_far (outline_of part.events.items text) (outline_of after.blocks text)
           ∙ ap (λ (l : List ℕ). so_far ++ l)
           (sym
           (flat_map-append printed_line (outline 0 (spelled part.events.items text))
-          (outline 0 (spelled after.events text)))
+          (outline 0 (spelled after.blocks text)))
           ∙ ap (flat_map printed_line) parts.joined
-          ∙ ap (λ (es : List Event). outline_of es text) (sym next.events))
+          ∙ ap (λ (es : List Event). outline_of es text) (sym next.blocks))
           ∙ are.lines;
       definitions_are =
           moved definitions part.definitions.items definitions_now before.labels.definitions after.labels.definitions

@@ -7,7 +7,7 @@ use markdown_blocks::parser::parse;
 use md_engine::configuration::ParseOptions;
 use md_engine::message::Message;
 use md_program::body::Body;
-use md_program::printing::Printing;
+use md_program::printing::{Printing, bytes_of};
 use std::alloc::Global;
 
 /// Prints the events of a text.
@@ -16,9 +16,10 @@ pub struct Events;
 impl Printing for Events {
     ghost prints = { PrintsEvents };
 
-    fn output(alloc: Global, text: &str, options: ParseOptions) -> Result<String, Message> {
+    fn output(alloc: Global, text: &str, options: ParseOptions) -> Result<Vec<u8>, Message> {
         let options = Blocks::built(options);
         let (events, _state) = parse(alloc, text, &options)?;
-        print(alloc, &events)
+        let text = print(alloc, &events)?;
+        bytes_of(alloc, text.as_str())
     }
 }

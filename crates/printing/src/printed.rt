@@ -11,17 +11,19 @@ ghost use Rattle.md_meaning.specs.Label.{labels};
 ghost use Rattle.md_meaning.specs.Meaning.{tree};
 ghost use Rattle.md_meaning.specs.Outline.{outline};
 ghost use Rattle.md_outline.specs.Outlined.{IsOutlined};
+ghost use Rattle.md_program.specs.Page.{written_on};
 ghost use Rattle.md_program.specs.Printed.{PrintsOutline, printed_line};
 ghost use Rattle.markdown_blocks.specs.Parsed.{IsSmall, IsWithoutMdx};
 ghost use Rattle.printing.specs.Built.{Outlines, built_from};
 
 use crate::blocks::Blocks;
-use markdown_blocks::outline::outline_part;
+use markdown_blocks::outline::{outline, outline_part};
 use markdown_blocks::parser::{ParseState, Part, Parts};
 use md_engine::configuration::ParseOptions;
 use md_engine::event::Event;
 use md_engine::message::Message;
 use md_program::body::Body;
+use md_program::output::Page;
 use md_program::print::{push_end, push_lines, with_room};
 use md_program::printing::Printing;
 use std::alloc::Global;
@@ -32,7 +34,7 @@ pub struct PartByPart;
 impl Printing for PartByPart {
     ghost prints = { PrintsOutline Outlines built_from };
 
-    fn output(alloc: Global, text: &str, options: ParseOptions) -> Result<String, Message> {
+    fn output(alloc: Global, text: &str, options: ParseOptions) -> Result<Vec<u8>, Message> {
         let options = Blocks::built(options);
         let mut output = with_room(alloc, text)?;
         let found = push_parts(alloc, text, &options, &mut output)?;
@@ -41,7 +43,7 @@ impl Printing for PartByPart {
             found.definitions.as_slice(),
             found.footnotes.as_slice(),
         )?;
-        Ok(output)
+        Ok(output.finish())
     }
 }
 
@@ -71,14 +73,14 @@ fn push_parts(
     alloc: Global,
     text: &str,
     options: &ParseOptions,
-    output: &mut String,
+    output: &mut Page,
 ) -> Result<Found, Message>
     requires small { IsSmall text.now }
     requires built { IsWithoutMdx options.now }
     ensures lines { IfOk result
         (λ found.
-        string_bytes output.new ≡
-        string_bytes output.old ++ flat_map printed_line (outline 0 (tree options.now text.now))) }
+        written_on output.new ≡
+        written_on output.old ++ flat_map printed_line (outline 0 (tree options.now text.now))) }
     ensures definitions { IfOk result
         (λ found.
         map string_bytes found.definitions.items ≡ (labels (tree options.now text.now)).definitions) }
@@ -92,7 +94,7 @@ fn push_parts(
         footnotes: Vec::new(alloc),
     };
     let mut parts = Parts::new(alloc, text, options);
-    while let Some(next) = parts.next()? {
+    while let Some(next) = parts.next_blocks()? {
         let mut part = next;
         push_part(alloc, &mut part, &state, &mut found, output)?;
         parts.reuse(part);
@@ -106,12 +108,12 @@ fn push_part(
     part: &mut Part,
     state: &ParseState,
     found: &mut Found,
-    output: &mut String,
+    output: &mut Page,
 ) -> Result<(), Message>
     requires { IsOutlined part.old.events.items state.now.bytes.now }
     ensures lines { OnOk result
-        (string_bytes output.new ≡
-        string_bytes output.old
+        (written_on output.new ≡
+        written_on output.old
         ++ flat_map printed_line (outline 0 (spelled part.old.events.items state.now.bytes.now))) }
     ensures definitions { OnOk result
         (found.new.definitions.items ≡ found.old.definitions.items ++ part.old.definitions.items) }
@@ -124,17 +126,25 @@ fn push_part(
     Ok(())
 }
 
+/// The outline of so many events, at most, is made at once, since its lines take little memory.
+const AT_ONCE: usize = 1 << 17;
+
 /// Puts the outline of the events after the output.
 fn push_outline(
     alloc: Global,
     events: &[Event],
     state: &ParseState,
-    output: &mut String,
+    output: &mut Page,
 ) -> Result<(), Message>
     requires { IsOutlined events.now state.now.bytes.now }
-    ensures { OnOk result (string_bytes output.new ≡
-        string_bytes output.old ++ flat_map printed_line (outline 0 (spelled events.now state.now.bytes.now))) }
+    ensures { OnOk result (written_on output.new ≡
+        written_on output.old ++ flat_map printed_line (outline 0 (spelled events.now state.now.bytes.now))) }
 {
+    if events.len() <= AT_ONCE {
+        let lines = outline(alloc, events, state)?;
+        push_lines(output, lines.as_slice())?;
+        return Ok(());
+    }
     let mut rest = events;
     while !rest.is_empty() {
         let part = outline_part(alloc, rest, state)?;

@@ -11,7 +11,7 @@ use markdown_blocks::parser::{ParseState, parse, parse_with};
 use markdown_inlines::Inlines;
 use md_engine::configuration::ParseOptions;
 use md_program::body::Body;
-use md_program::printing::Printing;
+use md_program::printing::{Printing, bytes_of};
 use printing::blocks::Blocks;
 use std::alloc::Global;
 use std::mem::size_of;
@@ -74,7 +74,7 @@ pub struct Cost;
 impl Printing for Cost {
     ghost prints = { λ text options output. Unit {0} };
 
-    fn output(alloc: Global, text: &str, options: ParseOptions) -> Result<String, Message> {
+    fn output(alloc: Global, text: &str, options: ParseOptions) -> Result<Vec<u8>, Message> {
         let options = Blocks::built(options_of(text, options));
         let (events, state) = read(alloc, text, &options)?;
         let lines = line_count(alloc, text, &events, &state)?;
@@ -87,6 +87,6 @@ impl Printing for Cost {
             size_of::<Event>(),
             lines
         )?;
-        Ok(numbers)
+        bytes_of(alloc, &numbers)
     }
 }

@@ -1,8 +1,9 @@
 // The program `test_library`: it makes one call of the library between two requests for memory of known sizes, so that
 // a test can refuse the requests of that call alone (`scripts/refuse_memory.sh`). Its argument names the call:
 //
-//     parse, parse_with, inlines, parts, outline, outline_part
-//                                   it prints the outline of the text; `inlines` is `parse_with` with that layer
+//     parse, parse_with, inlines, parts, blocks, outline, outline_part
+//                                   it prints the outline of the text; `inlines` is `parse_with` with that layer, and
+//                                   `blocks` is `Parts` whose text parts are not read
 //     into                          the same of events that are handed over, with that layer
 //     html, html_of                 it prints the HTML of the text; `html_of` writes it as events are handed over
 //     quote, item, footnote         it prints the text in that container
@@ -144,11 +145,13 @@ fn parsed_with(
 /// More parts than the text has.
 const MOST_PARTS: usize = 100;
 
-/// The events and the labels of the parts of a text, each of which ends as soon as it may, one after the other.
+/// The events and the labels of the parts of a text, each of which ends as soon as it may, one after the other. Their
+/// text parts are read if that is wanted.
 fn joined<'a>(
     alloc: Global,
     text: &'a str,
     options: &'a ParseOptions,
+    wants_lines: bool,
 ) -> Result<(Vec<Event>, ParseState<'a>), Message>
     requires size { IsSmall text.now }
     requires built { IsWithoutMdx options.now }
@@ -158,7 +161,12 @@ fn joined<'a>(
     let mut footnotes = Vec::new(alloc);
     let mut parts = Parts::with_least(alloc, text, options, 1);
     for _part in 0..MOST_PARTS {
-        let Some(mut part) = parts.next()? else {
+        let next = if wants_lines {
+            parts.next()?
+        } else {
+            parts.next_blocks()?
+        };
+        let Some(mut part) = next else {
             break;
         };
         if events.append(&mut part.events).is_err()
@@ -181,12 +189,17 @@ fn joined<'a>(
 }
 
 /// The same part by part.
-fn parsed_by_parts(alloc: Global, text: &str, options: &ParseOptions) -> Result<String, Message>
+fn parsed_by_parts(
+    alloc: Global,
+    text: &str,
+    options: &ParseOptions,
+    wants_lines: bool,
+) -> Result<String, Message>
     requires size { IsSmall text.now }
     requires built { IsWithoutMdx options.now }
 {
     let _before = mark(alloc, BEFORE)?;
-    let parsed = joined(alloc, text, options);
+    let parsed = joined(alloc, text, options, wants_lines);
     let _after = mark(alloc, AFTER)?;
     let (events, state) = parsed?;
     printed(alloc, &events, state)
@@ -327,7 +340,7 @@ fn in_footnote(alloc: Global, text: &str, options: &ParseOptions) -> Result<Stri
 /// What is printed of a call, or nothing of a word that is none.
 fn answer(alloc: Global, word: &str) -> Result<String, Message> {
     let text = match word {
-        "parts" => PARTED,
+        "parts" | "blocks" => PARTED,
         "into" | "html_of" => LINKED,
         "inlines" | "html" => MARKED,
         _ => TEXT,
@@ -340,7 +353,8 @@ fn answer(alloc: Global, word: &str) -> Result<String, Message> {
         "parse" => parsed(alloc, text, &options),
         "parse_with" => parsed_with(alloc, &References, text, &options),
         "inlines" => parsed_with(alloc, &Inlines::GFM, text, &options),
-        "parts" => parsed_by_parts(alloc, text, &options),
+        "parts" => parsed_by_parts(alloc, text, &options, true),
+        "blocks" => parsed_by_parts(alloc, text, &options, false),
         "into" => parsed_into(alloc, text, &options),
         "html" => written(alloc, text, &options),
         "html_of" => written_by_parts(alloc, text, &options),

@@ -1,9 +1,12 @@
-// A text that is read part by part has the events of its parse, one part after the other, and its labels.
+// A text that is read part by part has the events of its parse, one part after the other, and its labels; and before
+// its text parts are read it has its outline.
 ghost use Rattle.markdown_blocks.specs.Parsed.{IsSmall, IsWithoutMdx};
 
 use crate::parts::repeated;
 use markdown_blocks::configuration::ParseOptions;
+use markdown_blocks::event::{Event, Kind, Name};
 use markdown_blocks::message::Message;
+use markdown_blocks::outline::outline;
 use markdown_blocks::parser::{Part, Parts, parse};
 use std::alloc::Global;
 use std::process::Abort;
@@ -181,4 +184,77 @@ fn parts_of_any_size_are_those_of_the_text(rt: HostRuntime) {
     for least in 0..WHOLE.len() {
         check_parts(&rt, alloc, WHOLE, least);
     }
+}
+
+// Whether the outlines of the parts of a text whose text parts are not read are its outline.
+fn has_outline(alloc: Global, text: &str, least: usize) -> Result<bool, Message>
+    requires { IsSmall text.now }
+{
+    let (events, state) = parse(alloc, text, &ParseOptions::GFM)?;
+    let lines = outline(alloc, &events, &state)?;
+    let mut wanted = lines.iter();
+    let mut parts = Parts::with_least(alloc, text, &ParseOptions::GFM, least);
+    for _part in 0..MOST_PARTS {
+        let Some(part) = parts.next_blocks()? else {
+            break;
+        };
+        for line in outline(alloc, &part.events, &state)?.iter() {
+            if wanted.next() != Some(line) {
+                return Ok(false);
+            }
+        }
+        parts.reuse(part);
+    }
+    Ok(wanted.next().is_none())
+}
+
+#[test]
+fn unread_parts_of_any_size_have_the_outline_of_the_text(rt: HostRuntime) {
+    let alloc = rt.alloc();
+    assert!(&rt; WHOLE.len() <= usize::MAX / 8);
+    for least in 0..WHOLE.len() {
+        let is = match has_outline(alloc, WHOLE, least) {
+            Ok(is) => Ok(is),
+            Err(Message) => has_outline(alloc, WHOLE, least),
+        };
+        assert!(&rt; matches!(is, Ok(true)), "{least}: {is:?}");
+    }
+}
+
+// Whether an event begins a chunk that is read later.
+fn is_linked(event: &Event) -> bool {
+    matches!(event.kind, Kind::Enter) && matches!(event.name, Name::Data) && event.link.is_some()
+}
+
+// How many chunks are read later in the first part of a text, and how many events it has.
+fn unread(alloc: Global, text: &str) -> Result<(usize, usize), Message>
+    requires { IsSmall text.now }
+{
+    match Parts::new(alloc, text, &ParseOptions::GFM).next_blocks()? {
+        Some(part) => Ok((
+            part.events.iter().filter(|event| is_linked(event)).count(),
+            part.events.len(),
+        )),
+        None => Ok((0, 0)),
+    }
+}
+
+fn check_unread(rt: &impl Abort, alloc: Global, text: &str, want: (usize, usize)) {
+    assert!(rt; text.len() <= usize::MAX / 8);
+    let counts = match unread(alloc, text) {
+        Ok(counts) => Ok(counts),
+        Err(Message) => unread(alloc, text),
+    };
+    assert!(rt;
+        matches!(counts, Ok(both) if both == want),
+        "{text:?}: {counts:?}"
+    );
+}
+
+#[test]
+fn each_line_of_an_unread_part_is_a_chunk(rt: HostRuntime) {
+    let alloc = rt.alloc();
+    check_unread(&rt, alloc, "", (0, 0));
+    check_unread(&rt, alloc, "---", (0, 4));
+    check_unread(&rt, alloc, "a\nb", (2, 6));
 }

@@ -8,7 +8,8 @@ use std::alloc::Global;
 
 /// What the parts of a text are for.
 pub(crate) trait OfParts<'a> {
-    /// Takes the next part. The state has the bytes and the options of the text, and no labels: these are in the parts.
+    /// Takes the next part, whose text parts are not read. The state has the bytes and the options of the text, and no
+    /// labels: these are in the parts.
     ///
     /// An `Err` says that memory ran out.
     fn take(&mut self, part: &mut Part, state: &ParseState<'a>) -> Result<(), Message>;
@@ -31,7 +32,7 @@ pub(crate) fn hand_out<'a, T: OfParts<'a>>(
         gfm_footnote_definitions: Vec::new(alloc),
     };
     let mut parts = Parts::new(alloc, text, options);
-    while let Some(next) = parts.next()? {
+    while let Some(next) = parts.next_blocks()? {
         let mut part = next;
         to.take(&mut part, &state)?;
         parts.reuse(part);

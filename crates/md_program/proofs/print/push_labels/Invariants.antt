@@ -5,6 +5,6 @@ use Rattle.md_program.proofs.print.push_labels.Given as goal
 
 -- the labels so far
 abbrev pub invariant-loop-label : goal.invariant-loop-label
-invariant-loop-label l =
-    string_bytes l.text
-    ≡ string_bytes l.initial.text ++ flat_map printed_label (map string_bytes (take l.label-index l.labels))
+invariant-loop-label g l =
+    g.W.Output.bytes l.text
+    ≡ g.W.Output.bytes l.initial.text ++ flat_map printed_label (map string_bytes (take l.label-index l.labels))

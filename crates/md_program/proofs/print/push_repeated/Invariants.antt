@@ -1,7 +1,7 @@
-use Rattle.std.proofs.Common.{◌≡◌, ◌++◌, string_bytes}
+use Rattle.std.proofs.Common.{◌≡◌, ◌++◌}
 use Rattle.std.specs.List.{repeat}
 use Rattle.md_program.proofs.print.push_repeated.Given as goal
 
 -- the pieces so far
 abbrev pub invariant-loop-done : goal.invariant-loop-done
-invariant-loop-done l = string_bytes l.text ≡ string_bytes l.initial.text ++ repeat l._done l.piece
+invariant-loop-done g l = g.W.Output.bytes l.text ≡ g.W.Output.bytes l.initial.text ++ repeat l._done l.piece

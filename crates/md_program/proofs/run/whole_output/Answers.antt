@@ -1,4 +1,4 @@
-use Rattle.std.proofs.Common.{◌≡◌, List, ℕ, IsUtf8, string_bytes, sym, ◌∙◌, subst}
+use Rattle.std.proofs.Common.{◌≡◌, List, ℕ, IsUtf8, sym, ◌∙◌, subst}
 use Rattle.md_engine.specs.declared.configuration.ParseOptions.{ParseOptions}
 use Rattle.md_program.proofs.run.whole_output.Goals as goal
 
@@ -7,7 +7,7 @@ returns g c =
     let items = c.in_ok-bytes.bytes.items in
     let text : c.in-Ok.text.now ≡ items = c.in-Ok.ensures.cases.0 ∙ c.as_slice.ensures.value in
     let prints = g.P.Printing.prints in
-    let bytes = string_bytes c.in_ok-output.output in
+    let bytes = c.in_ok-output.output.items in
     record {
       set = c.in-Some.set;
       known = sym c.asked_for.ensures ∙ c.in-Some.is;

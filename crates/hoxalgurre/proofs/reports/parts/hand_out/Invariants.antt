@@ -6,4 +6,4 @@ abbrev pub invariant-loop-parts : goal.invariant-loop-parts
 invariant-loop-parts w l = Unit {0}
 
 abbrev pub decreases-loop-parts : goal.decreases-loop-parts
-decreases-loop-parts w l = length (left_in l.parts).events
+decreases-loop-parts w l = length (left_in l.parts).blocks
